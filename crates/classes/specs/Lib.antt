@@ -1,0 +1,4 @@
+pub mod Limits
+pub mod Rule
+pub mod Long
+pub mod Exports
