@@ -1,3 +1,2 @@
-pub mod Plan
 pub mod Sums
 pub mod Lengths

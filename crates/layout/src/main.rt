@@ -1,12 +1,12 @@
 //! Reads request lengths in bytes, one a line, and prints how each is held and what rounding loses, then the totals.
 
-mod plan;
+mod held;
 mod totals;
 
 ghost use Rattle.layout.specs.Lengths.{Length};
 use classes::LONGEST_REQUEST;
-use plan::Plan;
-use plan::PlanDisplay;
+use held::Held;
+use held::HeldDisplay;
 use std::io;
 use std::io::BufRead;
 use std::io::BufReader;
@@ -32,10 +32,10 @@ fn answer<W: Write>(out: &mut W, totals: &mut Totals, number: u64, line: &[u8]) 
         totals.refuse();
         return writeln!(out, "line {number}: refused, not a length in bytes");
     };
-    match Plan::of_request(bytes) {
-        Some(plan) => {
-            totals.hold(bytes, plan.size);
-            writeln!(out, "{bytes} bytes: {plan}")
+    match Held::of_request(bytes) {
+        Some(held) => {
+            totals.hold(bytes, held.size());
+            writeln!(out, "{bytes} bytes: {held}")
         }
         None => {
             totals.refuse();

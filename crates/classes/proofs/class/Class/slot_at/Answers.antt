@@ -11,10 +11,9 @@ returns-in-None c s h = omega (arith, start-slot (c .args .self .number) (c .arg
 pub returns-then-slot-size : need.returns-then-slot-size
 returns-then-slot-size c =
     let n = c .args .self .number in
-    let e = c .in-Some .ensures tt in
-    let here : c .in-Some .slot * c .size .result ≡ c .args .place = omega arith in (
+    let e = c .in-Some .ensures tt in (
       subst (λ (m : ℕ). m < slotsOf n) (sym (e .1)) (slot-within n (c .args .self .known) (c .args .place) (e .0)),
-      ap (λ (m : ℕ). c .in-Some .slot * m) (sym (c .size .ensures)) ∙ here,
+      ap (λ (m : ℕ). c .in-Some .slot * m) (sym (c .size .ensures)) ∙ c .if-slot-size .taken,
     )
 
 pub returns-else-slot-size : need.returns-else-slot-size

@@ -1,4 +1,7 @@
-use Prim.Native.Nat.{_<_}
+use mathlib.Core.Path.{ap, _∙_}
+use Prim.Native.Nat.{ℕ, _*_, _/_, _%_, _^_, _<_}
+use mathlib.Core.List.{[], _∷_}
+use lib.ListN.{getD}
 use native.Mathlib.Omega.{arith}
 use Rattle.classes.specs.Rule.{runBytes}
 use Rattle.classes.proofs.Sizes.{slot-is}
@@ -6,6 +9,9 @@ use Rattle.classes.proofs.class.Class.slot_of.Needs as need
 
 pub returns : need.returns
 returns c =
-    let power = c .power .ensures in
-    let within : c .args .place < runBytes (c .args .self .number) = omega arith in
-    (within, search slot-is)
+    let n = c .args .self .number in
+    let p = c .args .place in
+    let within : p < runBytes n = omega arith in (
+      within,
+      ap (λ (i : ℕ). p / 2 ^ i * getD (16384 ∷ 13108 ∷ 10923 ∷ 9363 ∷ []) (n % 4) 0 / 65536) (c .power .ensures) ∙ slot-is n p within,
+    )

@@ -1,8 +1,11 @@
-use Rattle.classes.proofs.Sizes.{slots-are, shifted-fill}
+use mathlib.Core.Path.{_≡_, ap, _∙_}
+use Prim.Native.Nat.{ℕ, _*_, _/_, _^_}
+use Rattle.classes.specs.Rule.{slotsOf, sizeOf}
+use Rattle.classes.proofs.Sizes.{slots-are, slots-fill}
 use Rattle.classes.proofs.class.Class.slots.Needs as need
 
 pub returns : need.returns
 returns c =
-    let power = c .power .ensures in
-    let known = c .args .self .known in
-    record { is = search slots-are; fill = search shifted-fill }
+    let n = c .args .self .number in
+    let is : 512 / 2 ^ c .power .result ≡ slotsOf n = ap (λ (i : ℕ). 512 / 2 ^ i) (c .power .ensures) ∙ slots-are n (c .args .self .known) in
+    record { is = is; fill = ap (λ (m : ℕ). m * sizeOf n) is ∙ slots-fill n (c .args .self .known) }

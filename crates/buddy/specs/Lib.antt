@@ -1,0 +1,3 @@
+-- What the buddy supply promises.
+pub mod Reserve
+pub mod BuddyRule

@@ -1,0 +1,2 @@
+-- What the guard page promises.
+pub mod GuardRule

@@ -1,0 +1,3 @@
+-- What the clients of pools promise.
+pub mod Again
+pub mod Edges

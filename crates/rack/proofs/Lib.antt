@@ -1,0 +1,4 @@
+pub mod Keeping
+pub mod Loans
+pub mod Rooms
+pub mod Parts

@@ -1,0 +1,4 @@
+-- Lemmas of the clients.
+pub mod Lands
+pub mod BuddyEdge
+pub mod GuardEdge

@@ -1,0 +1,3 @@
+-- What the clients of supplies promise.
+pub mod Again
+pub mod Edges

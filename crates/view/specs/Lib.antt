@@ -1,0 +1,1 @@
+-- The trait and its witness cite no definitions.
