@@ -1,7 +1,7 @@
 //! Why a pool refuses, with the number and the values that each refusal tells.
 ghost use mathlib.Core.Path.{_≡_};
 ghost use mathlib.Core.List.{[], _∷_};
-ghost use lib.ListN.{take};
+ghost use lib.ListN.{length, take};
 ghost use Rattle.pool.specs.Faults.{number, places};
 use pages::fault::SupplyFault;
 
@@ -52,7 +52,8 @@ impl PoolFault {
 
     /// The values that the refusal tells.
     pub fn places(&self) -> Places
-        ensures { λ r. ⌜ take (r .count) (r .values) ≡ places (now (self .entry)) ⌝ }
+        ensures count { λ r. ⌜ r .count ≡ length (places (now (self .entry))) ⌝ }
+        ensures values { λ r. ⌜ take (r .count) (r .values) ≡ places (now (self .entry)) ⌝ }
     {
         match self {
             PoolFault::NoBytes => one(0),

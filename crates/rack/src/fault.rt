@@ -1,6 +1,8 @@
 //! Why a rack refuses, with the number and the values that each refusal tells.
 ghost use mathlib.Core.Path.{_≡_};
-ghost use Rattle.rack.specs.Faults.{number};
+ghost use mathlib.Core.List.{[], _∷_};
+ghost use lib.ListN.{length, take};
+ghost use Rattle.rack.specs.Faults.{number, places};
 use pool::PoolFault;
 
 /// A refusal of a rack's call. Each tells its line.
@@ -28,6 +30,13 @@ pub enum RackFault {
     Pool(PoolFault, u32),
 }
 
+/// The values that a refusal tells, the lowest layer's first: the first `count` of `values`.
+#[derive(Clone, Copy)]
+pub struct Places {
+    pub values: [u32; 3],
+    pub count: usize,
+}
+
 impl RackFault {
     /// The refusal's number.
     pub fn number(&self) -> u32
@@ -45,5 +54,47 @@ impl RackFault {
             RackFault::WrongMemory(_) => 39,
             RackFault::Pool(below, _) => below.number(),
         }
+    }
+
+    /// The values that the refusal tells.
+    pub fn places(&self) -> Places
+        ensures count { λ r. ⌜ r .count ≡ length (places (now (self .entry))) ⌝ }
+        ensures values { λ r. ⌜ take (r .count) (r .values) ≡ places (now (self .entry)) ⌝ }
+    {
+        match self {
+            RackFault::NoLine(line) => one(*line),
+            RackFault::NoLength(line) => one(*line),
+            RackFault::TooLong(line) => one(*line),
+            RackFault::InUse(line) => one(*line),
+            RackFault::NotInUse(line) => one(*line),
+            RackFault::IsRinging(line) => one(*line),
+            RackFault::IsPlaying(line) => one(*line),
+            RackFault::TooFar(line) => one(*line),
+            RackFault::WrongMemory(line) => one(*line),
+            RackFault::Pool(below, line) => {
+                let told = below.places();
+                if told.count > 1 {
+                    Places {
+                        values: [told.values[0], told.values[1], *line],
+                        count: 3,
+                    }
+                } else {
+                    Places {
+                        values: [told.values[0], *line, 0],
+                        count: 2,
+                    }
+                }
+            }
+        }
+    }
+}
+
+// One value.
+fn one(value: u32) -> Places
+    ensures { λ r. ⌜ r .values ≡ value ∷ 0 ∷ 0 ∷ [] ⌝ ∗ ⌜ r .count ≡ 1 ⌝ }
+{
+    Places {
+        values: [value, 0, 0],
+        count: 1,
     }
 }

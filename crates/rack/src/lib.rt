@@ -6,6 +6,7 @@ mod rack;
 mod state;
 mod verdict;
 
+pub use fault::Places;
 pub use fault::RackFault;
 pub use line::Line;
 pub use rack::Rack;

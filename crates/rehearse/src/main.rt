@@ -7,6 +7,7 @@ mod voice;
 use buddy::Buddy;
 use buddy::BuddySupply;
 use buddy::BuddyView;
+use classes::PAGE_BYTES;
 use guard::Guard;
 use guard::GuardSupply;
 use guard::GuardView;
@@ -33,10 +34,10 @@ use voice::MonoVoice;
 use voice::StereoVoice;
 use voice::Voice;
 
-// The pages of each supply, and their bytes.
+// The pages of each supply, and the bytes of the sample memory.
 const SPAN: u32 = 16;
 
-const MEMORY: usize = 16 * 512;
+const MEMORY: usize = SPAN as usize * PAGE_BYTES as usize;
 
 // The answers of a new rack over a supply, which is handed back.
 fn rehearsed<S: Supply, V: Voice + Copy>(
