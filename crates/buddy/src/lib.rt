@@ -1,5 +1,5 @@
-// The buddy supply: each run has a reserve, the smallest power of two of pages that holds it, at a page divisible by
-// that power. A count fits if such a reserve touches no other run's, and the lowest one is taken.
+//! The buddy supply: each run has a reserve, the smallest power of two of pages that holds it, at a page divisible by
+//! that power. A count fits if such a reserve touches no other run's, and the lowest one is taken.
 pub mod reserve;
 pub mod span;
 
@@ -34,7 +34,7 @@ pub struct Buddy {
 }
 
 impl Buddy {
-    // A span that the check refuses gives a supply of 1 page. No run is out.
+    /// A span that the check refuses gives a supply of 1 page. No run is out.
     pub fn new(span: u32) -> Self
         ensures span { λ r. ⌜ r .span ≡ grantedSpan (goodBuddySpan span) span ⌝ }
         ensures table { λ r. ⌜ take (r .span) (r .counts) ≡ replicate (grantedSpan (goodBuddySpan span) span) 0 ⌝ }

@@ -1,5 +1,5 @@
-// The guard page: a layer over a supply that asks one page more below, and hands out the run without its last page.
-// So a page that nobody has stands behind each run. Layers nest.
+//! The guard page: a layer over a supply that asks one page more below, and hands out the run without its last page.
+//! So a page that nobody has stands behind each run. Layers nest.
 ghost use mathlib.Core.Path.{_≡_};
 ghost use Prim.Native.Nat.{_-_, _≤_, _<_};
 ghost use Rattle.std.specs.shelf.Lists.{sum};
@@ -23,7 +23,7 @@ pub struct Guard<S: Supply> {
 }
 
 impl<S: Supply> Guard<S> {
-    // Over a supply with runs out, or whose largest is 1, it passes each count through.
+    /// Over a supply with runs out, or whose largest is 1, it passes each count through.
     pub fn new(supply: S) -> Guard<S>
         ensures supply { λ r. ⌜ r .below .supply ≡ supply ⌝ }
         ensures extra { λ r. ⌜ extraOf (S·Supply .largest (r .below .supply)) (r .more) ≡ extraPages (S·Supply .largest supply) (S·View .view supply) ⌝ }

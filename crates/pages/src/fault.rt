@@ -1,4 +1,4 @@
-// Why a supply refuses, with the number and the place that each refusal tells.
+//! Why a supply refuses, with the number and the place that each refusal tells.
 ghost use mathlib.Core.Path.{_≡_};
 ghost use mathlib.Core.List.{[], _∷_};
 ghost use Rattle.pages.specs.Faults.{number, places, spanNumber, spanPlaces};
@@ -24,7 +24,7 @@ impl SupplyFault {
         }
     }
 
-    // The one value that the refusal tells.
+    /// The one value that the refusal tells.
     pub fn place(&self) -> u32
         ensures { λ r. ⌜ places (now (self .entry)) ≡ r ∷ [] ⌝ }
     {
@@ -51,7 +51,7 @@ impl SpanFault {
         }
     }
 
-    // The one value that the refusal tells.
+    /// The one value that the refusal tells.
     pub fn place(&self) -> u32
         ensures { λ r. ⌜ spanPlaces (now (self .entry)) ≡ r ∷ [] ⌝ }
     {

@@ -1,4 +1,4 @@
-// The first fit: a count fits if that many free pages stand in a row, and the lowest place is taken.
+//! The first fit: a count fits if that many free pages stand in a row, and the lowest place is taken.
 ghost use mathlib.Core.Path.{_≡_};
 ghost use Prim.Native.Nat.{_≤_, _<_};
 ghost use lib.ListN.{length, take, replicate};
@@ -27,7 +27,7 @@ pub struct FirstFit {
 }
 
 impl FirstFit {
-    // A span that the check refuses gives a supply of 1 page. No run is out.
+    /// A span that the check refuses gives a supply of 1 page. No run is out.
     pub fn new(span: u32) -> Self
         ensures span { λ r. ⌜ r .span ≡ grantedSpan (goodSpan span) span ⌝ }
         ensures table { λ r. ⌜ take (r .span) (r .counts) ≡ replicate (grantedSpan (goodSpan span) span) 0 ⌝ }

@@ -1,4 +1,4 @@
-// Supplies of pages: what each one means, why it refuses, and the first fit.
+//! Supplies of pages: what each one means, why it refuses, and the first fit.
 pub mod fault;
 pub mod first_fit;
 pub mod limits;

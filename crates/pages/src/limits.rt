@@ -1,4 +1,4 @@
-// The limits of the page layer, named once.
+//! The limits of the page layer, named once.
 
-// The most pages that a supply can have.
+/// The most pages that a supply can have.
 pub const MAX_SPAN: usize = 1024;

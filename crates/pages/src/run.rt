@@ -1,4 +1,4 @@
-// A run: a first page and a count of pages in a row.
+//! A run: a first page and a count of pages in a row.
 #[derive(Clone, Copy)]
 pub struct Run {
     pub first: u32,

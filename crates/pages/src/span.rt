@@ -1,4 +1,4 @@
-// The check of a span, before a supply is made with it.
+//! The check of a span, before a supply is made with it.
 ghost use Rattle.pages.specs.Spans.{goodSpan, SpanChecked};
 use crate::fault::SpanFault;
 use crate::limits::MAX_SPAN;

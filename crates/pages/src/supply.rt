@@ -1,5 +1,5 @@
-// What every supply of pages means. Its view is the table of its runs out, as long as its span: at each page the
-// count of the run that begins there, or 0. So a set of runs has one table, and what a call does is an equation.
+//! What every supply of pages means. Its view is the table of its runs out, as long as its span: at each page the
+//! count of the run that begins there, or 0. So a set of runs has one table, and what a call does is an equation.
 ghost use mathlib.Core.Path.{_≡_};
 ghost use mathlib.Core.List.{List};
 ghost use Prim.Native.Nat.{ℕ, _≤_, _<_};
@@ -51,7 +51,7 @@ pub trait Supply: View {
         ensures choice_kept { λ _. ⌜ SameChoice (chooses (now (self .entry))) (chooses (now (self .exit))) ⌝ }
         ensures taken { λ r. ⌜ Taken (largest (now (self .entry))) (fits (now (self .entry))) (chooses (now (self .entry))) count (Self·View .view (now (self .entry))) (Self·View .view (now (self .exit))) r ⌝ };
 
-    // The second law stands in `Given`: right after a run is given, its count fits.
+    /// The second law stands in `Given`: right after a run is given, its count fits.
     fn give(&mut self, first: u32, count: u32) -> Result<(), SupplyFault>
         ensures largest_kept { λ _. ⌜ largest (now (self .exit)) ≡ largest (now (self .entry)) ⌝ }
         ensures rule_kept { λ _. ⌜ SameFits (fits (now (self .entry))) (fits (now (self .exit))) ⌝ }

@@ -1,5 +1,5 @@
-// A supply with the witness of its table, so that the table of runs out is a part of the value.
-// A struct that holds one can state its own invariants over that table, `witness .view`.
+//! A supply with the witness of its table, so that the table of runs out is a part of the value.
+//! A struct that holds one can state its own invariants over that table, `witness .view`.
 ghost use mathlib.Core.Path.{_≡_};
 ghost use Prim.Native.Nat.{_<_, _≤_};
 ghost use lib.ListN.{length};
@@ -31,7 +31,7 @@ impl<S: Supply> Tracked<S> {
         Tracked { supply, witness }
     }
 
-    // The table is the supply's view: a call that does nothing.
+    /// The table is the supply's view: a call that does nothing.
     pub fn known(&self)
         ensures { λ _. ⌜ S·View .view (now (self .entry) .supply) ≡ now (self .entry) .witness .view ⌝ }
     {
@@ -58,7 +58,7 @@ impl<S: Supply> Tracked<S> {
         self.supply.pages_out()
     }
 
-    // Each change of the supply takes a new witness.
+    /// Each change of the supply takes a new witness.
     pub fn take(&mut self, count: u32) -> Result<Run, SupplyFault>
         ensures largest_kept { λ _. ⌜ S·Supply .largest (now (self .exit) .supply) ≡ S·Supply .largest (now (self .entry) .supply) ⌝ }
         ensures rule_kept { λ _. ⌜ SameFits (S·Supply .fits (now (self .entry) .supply)) (S·Supply .fits (now (self .exit) .supply)) ⌝ }

@@ -1,4 +1,4 @@
-// Worked edges, derived from the contracts alone.
+//! Worked edges, derived from the contracts alone.
 ghost use Rattle.supplies.specs.Edges.{Went, Refused};
 use buddy::Buddy;
 use buddy::BuddySupply;
@@ -14,7 +14,7 @@ use pages::run::Run;
 use pages::supply::Supply;
 use view::View;
 
-// A buddy supply of 16 pages: the reserves of 5, 3 and 4 pages are 8, 4 and 4, and then no page is left.
+/// A buddy supply of 16 pages: the reserves of 5, 3 and 4 pages are 8, 4 and 4, and then no page is left.
 pub fn buddy_places() -> (
     Result<Run, SupplyFault>,
     Result<Run, SupplyFault>,
@@ -31,7 +31,7 @@ pub fn buddy_places() -> (
     (five, three, four, one)
 }
 
-// A guard over a first fit of 16 pages: page 4 guards the first run, so the second begins at 5.
+/// A guard over a first fit of 16 pages: page 4 guards the first run, so the second begins at 5.
 pub fn guard_places() -> (Result<Run, SupplyFault>, Result<Run, SupplyFault>)
     ensures { λ r. ⌜ Went 0 4 (r .0) × Went 5 5 (r .1) ⌝ }
 {

@@ -1,4 +1,4 @@
-// Every refusal of every call, over each supply and over layers that nest, as tables of calls and their answers.
+//! Every refusal of every call, over each supply and over layers that nest, as tables of calls and their answers.
 use crate::client::take_again;
 use buddy::Buddy;
 use buddy::BuddySupply;

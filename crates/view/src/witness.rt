@@ -1,7 +1,7 @@
-// What a value is seen as, as a value of no bytes.
-// A struct over a type parameter wants an invariant over its parameter's view. A plain ghost field cannot
-// cite a bound's ghost member, but it can cite the fields of a witness, and the witness owns the fact that
-// its `view` is the view of its `subject`.
+//! What a value is seen as, as a value of no bytes.
+//! A struct over a type parameter wants an invariant over its parameter's view. A plain ghost field cannot
+//! cite a bound's ghost member, but it can cite the fields of a witness, and the witness owns the fact that
+//! its `view` is the view of its `subject`.
 ghost use mathlib.Core.Path.{_≡_};
 ghost use mathlib.Core.List.{List};
 ghost use Prim.Native.Nat.{ℕ};
@@ -19,7 +19,7 @@ pub struct Witness<S: View> {
 }
 
 impl<S: View> Witness<S> {
-    // The witness of a value as it is now. Proved by hand: the fact that it owns holds by reflexivity.
+    /// The witness of a value as it is now. Proved by hand: the fact that it owns holds by reflexivity.
     pub fn of(subject: &S) -> Witness<S>
         ensures { λ r. ⌜ (r .subject ≡ now (subject .entry)) × (r .view ≡ S·View .view (now (subject .entry))) ⌝ }
     {
@@ -28,7 +28,7 @@ impl<S: View> Witness<S> {
         }
     }
 
-    // The fact that the witness owns, for a proof that holds it by reference: a call that does nothing.
+    /// The fact that the witness owns, for a proof that holds it by reference: a call that does nothing.
     pub fn known(&self)
         ensures { λ _. ⌜ S·View .view (now (self .entry) .subject) ≡ now (self .entry) .view ⌝ }
     {}
