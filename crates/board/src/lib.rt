@@ -1,4 +1,6 @@
 //! A board: one rack behind tickets, so that the compiler refuses what the rack would have to refuse while it plays.
+#![tactic(auto)]
+
 mod answers;
 mod board;
 mod fault;

@@ -1,5 +1,7 @@
 //! The buddy supply: each run has a reserve, the smallest power of two of pages that holds it, at a page divisible by
 //! that power. A count fits if such a reserve touches no other run's, and the lowest one is taken.
+#![tactic(auto)]
+
 pub mod reserve;
 pub mod span;
 

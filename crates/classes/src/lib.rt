@@ -1,5 +1,6 @@
 //! Size classes. Class `c` stands for `i` from 1 to 8 and `k` from 4 to 7, with `c = 4 * (i - 1) + (k - 4)`.
 //! Its blocks have `k * 2^i` bytes, and its runs `k` pages, which they fill.
+#![tactic(auto)]
 
 mod class;
 mod exports;

@@ -1,4 +1,6 @@
 //! The worked edges of the rules: those that are proved of the definitions, in one statement, and tests of the calls.
+#![tactic(auto)]
+
 ghost use Rattle.edges.specs.Edges.{Edges};
 
 #[cfg(test)]

@@ -1,5 +1,7 @@
 //! The guard page: a layer over a supply that asks one page more below, and hands out the run without its last page.
 //! So a page that nobody has stands behind each run. Layers nest.
+#![tactic(auto)]
+
 ghost use Rattle.std.specs.Prelude.{◌≡◌, ◌+◌, ◌-◌, ◌<◌, ◌≤◌, sum};
 ghost use Rattle.guard.specs.GuardRule.{extra_of, extra_pages, shorter, guard_table, guard_largest, Above, GuardFits, GuardChooses};
 ghost use Rattle.std.proofs.Common.{arith};

@@ -1,4 +1,5 @@
 //! Reads request lengths in bytes, one a line, and prints how each is held and what rounding loses, then the totals.
+#![tactic(auto)]
 
 mod held;
 mod totals;

@@ -1,4 +1,6 @@
 //! Supplies of pages: what each one means, why it refuses, and the first fit.
+#![tactic(auto)]
+
 pub mod fault;
 pub mod first_fit;
 pub mod limits;

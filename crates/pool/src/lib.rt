@@ -1,4 +1,6 @@
 //! A pool of blocks of bytes, over any supply of pages.
+#![tactic(auto)]
+
 mod block;
 mod fault;
 mod pool;

@@ -1,4 +1,6 @@
 //! Changes presets on a board, and prints what is heard of each change.
+#![tactic(auto)]
+
 mod change;
 mod show;
 mod voice;

@@ -1,4 +1,6 @@
 //! A rack of 64 delay lines over one sample memory, which comes with each call that reads or writes samples.
+#![tactic(auto)]
+
 mod fault;
 mod inner;
 mod line;

@@ -1,4 +1,5 @@
 //! Rehearses one list of calls over two supplies and two kinds of sample, and prints each call with its answer.
+#![tactic(auto)]
 
 mod score;
 mod show;

@@ -1,4 +1,6 @@
 //! Runs of pages, each cut into equal slots, and the table of a pool's runs.
+#![tactic(auto)]
+
 mod run;
 mod shape;
 mod slots;

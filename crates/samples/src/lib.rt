@@ -1,4 +1,5 @@
 //! Kinds of sample: how wide one is, what silence is, and how one stands in memory.
+#![tactic(auto)]
 
 mod kind;
 mod mono;

@@ -1,4 +1,6 @@
 //! A rack's calls as values, and the law over whole runs of them.
+#![tactic(auto)]
+
 mod call;
 mod dispatch;
 mod lists;

@@ -1,4 +1,6 @@
 //! A value's view, and a witness of it that takes no bytes.
+#![tactic(auto)]
+
 pub mod witness;
 
 ghost use Rattle.std.specs.Prelude.{ℕ, List};

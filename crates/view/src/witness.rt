@@ -18,7 +18,7 @@ pub struct Witness<S: View> {
 impl<S: View> Model for Witness<S> {
     ghost also_owns = { λ w. feq (List ℕ) (S.View.view w.subject) w.view };
 
-    ghost also_shares = { λ w _ κ. said (feq (List ℕ) (S.View.view w.subject) w.view) tt κ };
+    ghost also_shares = { λ w _ κ. said (feq (List ℕ) (S.View.view w.subject) w.view) κ };
 }
 
 impl<S: View> Witness<S> {

@@ -4,7 +4,7 @@ use seplogic.Ra.Ura.{Ura}
 use mir.Syntax.{Fn, Dict, a_type, dcons, dnil}
 use mir.Val.{Val, vptr, vunit}
 use mir.MapTy.{inst_fn}
-use base.Logic.{SProp, ent, sep, via, fst∗, snd∗}
+use base.Logic.{SProp, ent, via, fst∗, snd∗}
 use prog.Memory.{Memory}
 use prog.Routine.{Routine}
 use prog.Wp.{Calls, Loops, WpFn, Tables}
