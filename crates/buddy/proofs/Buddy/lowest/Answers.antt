@@ -6,16 +6,16 @@ use Rattle.buddy.specs.Powers.{power_smallest, power_pos, power_of_lem}
 use Rattle.buddy.specs.Reserves.{run_reserve, reserve_none, one_multiple, next_multiple}
 use Rattle.buddy.proofs.Buddy.lowest.Goals as goal
 
-pub overflow-add-place : goal.overflow-add-place
-overflow-add-place c =
+pub overflow_add-place : goal.overflow_add-place
+overflow_add-place c =
     let m : power_for c.args.count ≤ 2 ^ 10 = (power_smallest c.args.count).2 10 (omega (arith, c.requires)) in
-    omega (arith, power_of_lem c.args.count c.reserve-of-size.result c.reserve-of-size.ensures.value c.requires.0 c.requires.1)
+    omega (arith, power_of_lem c.args.count c.reserve_of-size.result c.reserve_of-size.ensures.value c.requires.0 c.requires.1)
 
 pub loop-place-preserved-then-place-busy : goal.loop-place-preserved-then-place-busy
 loop-place-preserved-then-place-busy c =
-    let z = c.reserve-of-size.result in
+    let z = c.reserve_of-size.result in
     let i = c.loop-place.invariant in
-    let p : 0 < z = omega (arith, power_pos c.args.count, power_of_lem c.args.count z c.reserve-of-size.ensures.value c.requires.0 c.requires.1) in (
+    let p : 0 < z = omega (arith, power_pos c.args.count, power_of_lem c.args.count z c.reserve_of-size.ensures.value c.requires.0 c.requires.1) in (
       next_multiple z c.loop-place.place i.0,
       i.1,
       i.2,
@@ -25,16 +25,16 @@ loop-place-preserved-then-place-busy c =
       i.6,
     )
 
-pub overflow-add-page : goal.overflow-add-page
-overflow-add-page c =
+pub overflow_add-page : goal.overflow_add-page
+overflow_add-page c =
     let s = c.args.self.now in
-    let r = run_reserve s.span s.counts c.loop-place.page c.reserve-of-page.result s.inside s.sized.1 c.if-run-gt0.true c.reserve-of-page.ensures.value in
+    let r = run_reserve s.span s.counts c.loop-place.page c.reserve_of-page.result s.inside s.sized.1 c.if-run-gt0.true c.reserve_of-page.ensures.value in
     omega (arith, s.sized)
 
 pub loop-place-smaller-then-run-gt0 : goal.loop-place-smaller-then-run-gt0
 loop-place-smaller-then-run-gt0 c =
     let s = c.args.self.now in
-    let r = run_reserve s.span s.counts c.loop-place.page c.reserve-of-page.result s.inside s.sized.1 c.if-run-gt0.true c.reserve-of-page.ensures.value in
+    let r = run_reserve s.span s.counts c.loop-place.page c.reserve_of-page.result s.inside s.sized.1 c.if-run-gt0.true c.reserve_of-page.ensures.value in
     omega arith
 
 pub loop-place-preserved-then-run-gt0 : goal.loop-place-preserved-then-run-gt0
@@ -42,7 +42,7 @@ loop-place-preserved-then-run-gt0 c =
     let s = c.args.self.now in
     let i = c.loop-place.invariant in
     let page = c.loop-place.page in
-    let r = run_reserve s.span s.counts page c.reserve-of-page.result s.inside s.sized.1 c.if-run-gt0.true c.reserve-of-page.ensures.value in
+    let r = run_reserve s.span s.counts page c.reserve_of-page.result s.inside s.sized.1 c.if-run-gt0.true c.reserve_of-page.ensures.value in
     let q : 0 < get_or (reserves s.counts) page 0 = omega arith in (
       i.0,
       omega arith,

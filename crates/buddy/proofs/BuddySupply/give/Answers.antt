@@ -11,14 +11,14 @@ use Rattle.buddy.proofs.BuddySupply.give.Goals as goal
 
 pub bounds-self-first : goal.bounds-self-first
 bounds-self-first c =
-    let h = c.is-out.ensures.0 c.if-not-is-out.false in
+    let h = c.is_out.ensures.0 c.if-not-is_out.false in
     omega (arith, within c.args.self.now.counts c.args.first (omega arith), c.args.self.now.sized.2)
 
-pub invariant-of-self : goal.invariant-of-self
-invariant-of-self c =
+pub invariant_of-self : goal.invariant_of-self
+invariant_of-self c =
     let s = c.args.self.now in
     let f = c.args.first in
-    let h = c.is-out.ensures.0 c.if-not-is-out.false in
+    let h = c.is_out.ensures.0 c.if-not-is_out.false in
     let l : f < length s.counts = within s.counts f (omega arith) in
     let m : f < length (reserves s.counts) = omega (arith, length-map s.counts reserve) in
     let r = sym (reserves_clear s.counts f) in (
@@ -37,7 +37,7 @@ returns c =
     let s = c.args.self.now in
     let f = c.args.first in
     let n = c.args.count in
-    let h = c.is-out.ensures.0 c.if-not-is-out.false in
+    let h = c.is_out.ensures.0 c.if-not-is_out.false in
     let p : 0 < get_or s.counts f 0 = omega arith in
     let l : f < length s.counts = within s.counts f p in
     let m : f < length (reserves s.counts) = omega (arith, length-map s.counts reserve) in
@@ -57,8 +57,8 @@ returns c =
       );
     }
 
-pub returns-then-not-is-out : goal.returns-then-not-is-out
-returns-then-not-is-out c =
+pub returns-then-not-is_out : goal.returns-then-not-is_out
+returns-then-not-is_out c =
     let s = c.args.self.now in
     record {
       largest_kept = refl;
@@ -68,6 +68,6 @@ returns-then-not-is-out c =
         kept = refl;
         told = refl;
         says = refl;
-        was_not = λ o. both_ways c.is-out.result c.if-not-is-out.true (c.is-out.ensures.1 (o.0, sym (view_at s.span s.counts (runs_inside s.span s.counts s.inside) c.args.first) ∙ o.1));
+        was_not = λ o. both_ways c.is_out.result c.if-not-is_out.true (c.is_out.ensures.1 (o.0, sym (view_at s.span s.counts (runs_inside s.span s.counts s.inside) c.args.first) ∙ o.1));
       };
     }

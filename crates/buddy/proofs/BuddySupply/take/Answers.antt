@@ -8,8 +8,8 @@ use Rattle.buddy.specs.Powers.{power_pos}
 use Rattle.buddy.specs.Reserves.{reserves_set, put_aligned, runs_inside, from_view_reserve, reserve_added}
 use Rattle.buddy.proofs.BuddySupply.take.Goals as goal
 
-pub invariant-of-self : goal.invariant-of-self
-invariant-of-self c =
+pub invariant_of-self : goal.invariant_of-self
+invariant_of-self c =
     let s = c.args.self.now in
     let f = c.in-Some.first in
     let n = c.args.count in

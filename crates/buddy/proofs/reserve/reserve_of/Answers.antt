@@ -9,8 +9,8 @@ use Rattle.buddy.proofs.reserve.reserve_of.Goals as goal
 pub returns : goal.returns
 returns c =
     let n = c.args.count in
-    let e = c.next-power-of-two.ensures in
-    let r = c.next-power-of-two.result in
+    let e = c.next_power_of_two.ensures in
+    let r = c.next_power_of_two.result in
     let is : r ≡ power_for n = power_is n r e.power.0 e.power.1 e.lower-bound e.upper-bound in
     let p : 0 < n = omega arith in
     record {

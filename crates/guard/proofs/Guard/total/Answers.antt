@@ -6,4 +6,4 @@ use Rattle.guard.proofs.Guard.total.Goals as goal
 pub returns-else-largest-gt1 : goal.returns-else-largest-gt1
 returns-else-largest-gt1 g c =
     let s = c.args.self.now in
-    sum_extra (g.S.Supply.largest s.below.supply) s.more c.pages-out.result s.below.witness.view (omega arith) c.pages-out.ensures
+    sum_extra (g.S.Supply.largest s.below.supply) s.more c.pages_out.result s.below.witness.view (omega arith) c.pages_out.ensures

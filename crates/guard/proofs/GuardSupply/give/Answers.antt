@@ -4,15 +4,15 @@ use Rattle.guard.specs.GuardRule.{extra_of, shorter}
 use Rattle.guard.specs.Guarding.{clear_state, gave, rule_set, rule_kept, choice_set, choice_kept, largest_set, largest_kept, extra_kept, get_or_shorter}
 use Rattle.guard.proofs.GuardSupply.give.Goals as goal
 
-pub overflow-sub-self : goal.overflow-sub-self
-overflow-sub-self g c =
+pub overflow_sub-self : goal.overflow_sub-self
+overflow_sub-self g c =
     let s = c.args.self.now in
     let L = g.S.Supply.largest s.below.supply in
     let a = c.in-Ok.ensures.given in
     (clear_state L L s.more c.extra-more.result c.extra-more.ensures.is refl s.below.witness.view s.above c.args.count (omega arith) c.args.first c.total-pages.result c.give-answer.new.self.witness.view c.extra-more.ensures.one a.was.1 a.after_is c.total-pages.ensures).0
 
-pub invariant-of-self : goal.invariant-of-self
-invariant-of-self g c =
+pub invariant_of-self : goal.invariant_of-self
+invariant_of-self g c =
     let s = c.args.self.now in
     let L = g.S.Supply.largest s.below.supply in
     let a = c.in-Ok.ensures.given in

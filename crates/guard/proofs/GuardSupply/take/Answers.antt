@@ -4,15 +4,15 @@ use Rattle.guard.specs.GuardRule.{extra_of, shorter, longer}
 use Rattle.guard.specs.Guarding.{pages_fit, put_state, took, rule_set, rule_kept, choice_set, choice_kept, largest_set, largest_kept, extra_kept, back, above_extra}
 use Rattle.guard.proofs.GuardSupply.take.Goals as goal
 
-pub overflow-add-self : goal.overflow-add-self
-overflow-add-self g c =
+pub overflow_add-self : goal.overflow_add-self
+overflow_add-self g c =
     let s = c.args.self.now in
     let L = g.S.Supply.largest s.below.supply in
     let a = c.in-Ok.ensures.taken in
     omega (arith, a.inside, s.below.sized, pages_fit L L s.more c.extra-more.result c.extra-more.ensures.is refl s.below.witness.view s.above c.total-pages.result c.total-pages.ensures s.below.inside s.below.apart)
 
-pub invariant-of-self : goal.invariant-of-self
-invariant-of-self g c =
+pub invariant_of-self : goal.invariant_of-self
+invariant_of-self g c =
     let s = c.args.self.now in
     let L = g.S.Supply.largest s.below.supply in
     let a = c.in-Ok.ensures.taken in

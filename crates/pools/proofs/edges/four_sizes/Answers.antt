@@ -70,4 +70,4 @@ returns c =
     let e = own_step p3.pages.supply.span n3 2000 4 long2000 rs3 p4.runs.table u3 u4 (set two 1 (Some (changed (fresh 4 1) 1 true))) 9 d.1.0 (omega arith) (omega arith) c.take-own.result c.take-own.ensures.taken in
     let u : u4 ≡ set (set (set (replicate 16 0) 0 4) 4 5) 9 4 =
     e.1 ∙ ap (λ (t : List ℕ). set t 9 4) (d.1.1 ∙ b.1.1 ∙ ap (λ (t : List ℕ). set t 4 5) (a.1.1 ∙ ap (λ (t : List ℕ). set t 0 4) v0)) in
-    (a.0, b.0, d.0, e.0, c.pages-out-out.ensures ∙ ap sum u)
+    (a.0, b.0, d.0, e.0, c.pages_out-out.ensures ∙ ap sum u)

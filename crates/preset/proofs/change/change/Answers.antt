@@ -19,7 +19,7 @@ leave-rung-requires g c =
     let second = c.in-Ok-enter.ensures in
     let other = c.in-Ok-enter.second in
     record {
-      own = (own_ticket b.mark m x c.args.old one first.enters).0 ∙ sym (second.mark-kept ∙ first.mark-kept);
+      own = (own_ticket b.mark m x c.args.old one first.enters).0 ∙ sym (second.mark_kept ∙ first.mark_kept);
       valid = old_valid b.mark d.mark m x y c.args.old c.args.new one other first.enters second.enters;
     }
 
@@ -36,7 +36,7 @@ leave-requires-in-Ok-enter g c =
     let second = c.in-Ok-enter.ensures in
     let other = c.in-Ok-enter.second in
     record {
-      own = (own_ticket d.mark x y c.args.new other second.enters).0 ∙ sym (c.leave-rung.ensures.mark-kept ∙ second.mark-kept);
+      own = (own_ticket d.mark x y c.args.new other second.enters).0 ∙ sym (c.leave-rung.ensures.mark_kept ∙ second.mark_kept);
       valid = new_valid b.mark d.mark m x y c.args.old c.args.new one other first.enters second.enters (model_of c.leave-rung.new.board c.leave-rung.new.memory) c.leave-rung.result c.leave-rung.ensures.leaves;
     }
 

@@ -35,8 +35,8 @@ unreachable-requires-in-Err-close g c =
     let z = model_of e c.tick.new.memory in
     let u = c.in-Ok.ticket in
     let first = c.in-Ok.ensures in
-    let marks = c.tick.ensures.mark-kept ∙ first.mark-kept in
-    let ticks = subst (λ (x : ℕ). BoardTicks Q C x n z u.mark u.line c.tick.result) first.mark-kept c.tick.ensures.ticks in
+    let marks = c.tick.ensures.mark_kept ∙ first.mark_kept in
+    let ticks = subst (λ (x : ℕ). BoardTicks Q C x n z u.mark u.line c.tick.result) first.mark_kept c.tick.ensures.ticks in
     let y = model_of c.close.new.self c.tick.new.memory in
     let closes = subst (λ (x : ℕ). BoardCloses T C x z y u (Err c.in-Err-close.field-0)) marks (c.in-Err-close.ensures.closes c.tick.new.memory) in
     never_kept R C b.mark m n z c.args.ticket c.requires.own c.requires.valid b.rack.inner.many d.rack.inner.many Q T y u c.tick.result c.in-Err-close.field-0 (first.rings mem) ticks closes
@@ -57,8 +57,8 @@ returns g c =
     let z = model_of e c.tick.new.memory in
     let u = c.in-Ok.ticket in
     let first = c.in-Ok.ensures in
-    let marks = c.tick.ensures.mark-kept ∙ first.mark-kept in
-    let ticks = subst (λ (x : ℕ). BoardTicks Q C x n z u.mark u.line c.tick.result) first.mark-kept c.tick.ensures.ticks in
+    let marks = c.tick.ensures.mark_kept ∙ first.mark_kept in
+    let ticks = subst (λ (x : ℕ). BoardTicks Q C x n z u.mark u.line c.tick.result) first.mark_kept c.tick.ensures.ticks in
     let P = rule_of g.S.Supply (supply_of c.close.new.self) in
     let y = model_of c.close.new.self c.tick.new.memory in
     let last = c.in-Ok-close.ensures in
@@ -66,7 +66,7 @@ returns g c =
     let closes = subst (λ (x : ℕ). BoardCloses T C x z y u (Ok tt)) marks (last.closes c.tick.new.memory) in
     let same = same_next R Q T first.rule_kept c.tick.ensures.rule_kept in
     record {
-      mark-kept = last.mark-kept ∙ marks;
+      mark_kept = last.mark_kept ∙ marks;
       rule_kept = same_next R T P same last.rule_kept;
       leaves = left R C b.mark m n z c.args.ticket c.requires.own c.requires.valid b.rack.inner.many d.rack.inner.many Q T T y u c.tick.result c.tap-heard.result (Ok tt) same (first.rings mem) ticks taps closes;
     }

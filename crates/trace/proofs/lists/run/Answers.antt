@@ -22,7 +22,7 @@ loop-call-preserved g c =
       search rules,
       search rules,
       same_next R Q (rule_of g.S.Supply (supply_of c.perform-answer.new.rack)) same c.perform-answer.ensures.rule_kept,
-      all_more R C start m n c.args.calls.now (vec_items c.loop-call.answers) (vec_items c.push-reserved.new.self) c.loop-call.call-index c.call-item.result a (search rules) (omega arith) c.loop-call.invariant.3 s c.push-reserved.ensures.items,
+      all_more R C start m n c.args.calls.now (vec_items c.loop-call.answers) (vec_items c.push_reserved.new.self) c.loop-call.call-index c.call-item.result a (search rules) (omega arith) c.loop-call.invariant.3 s c.push_reserved.ensures.items,
     )
 
 pub returns : goal.returns

@@ -11,7 +11,7 @@ returns-then-ticket-self g c =
     let b = c.args.self.now in
     let p = promised g.S.Supply (supply_of b) k.wide k.silent k.coded k.heard g.met.S.Supply.fits_bounds met.long met.least met.back in
     let d = λ (bytes : List ℕ). closes_other p b.mark (model_of b bytes) (model_of b bytes) b.rack.inner.many c.args.ticket (search rules) refl c.closed.result c.closed.ensures in
-    record { mark-kept = refl {a = b.mark}; rule_kept = search rules; closes = λ bytes. (d bytes).0; honours = λ bytes. (d bytes).1 }
+    record { mark_kept = refl {a = b.mark}; rule_kept = search rules; closes = λ bytes. (d bytes).0; honours = λ bytes. (d bytes).1 }
 
 pub returns : goal.returns
 returns g c =
@@ -21,4 +21,4 @@ returns g c =
     let p = promised g.S.Supply (supply_of b) k.wide k.silent k.coded k.heard g.met.S.Supply.fits_bounds met.long met.least met.back in
     let n = model_of (record { rack = c.close.new.self; mark = b.mark }) in
     let d = λ (bytes : List ℕ). closes p b.mark (model_of b bytes) (n bytes) b.rack.inner.many c.args.ticket (search rules) c.close.result (c.close.ensures.closes bytes) c.closed-2.result (search rules) in
-    record { mark-kept = refl {a = b.mark}; rule_kept = c.close.ensures.rule_kept; closes = λ bytes. (d bytes).0; honours = λ bytes. (d bytes).1 }
+    record { mark_kept = refl {a = b.mark}; rule_kept = c.close.ensures.rule_kept; closes = λ bytes. (d bytes).0; honours = λ bytes. (d bytes).1 }

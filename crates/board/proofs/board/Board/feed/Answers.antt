@@ -13,4 +13,4 @@ returns g c =
     let t = c.args.ticket.now in
     let n = model_of (record { rack = c.feed.new.self; mark = b.mark }) c.feed.new.memory in
     let d = feeds p b.mark (model_of b c.args.memory.now) n b.rack.inner.many t.mark t.line c.args.sample (search rules) c.feed.result c.feed.ensures.feeds c.passed.result c.passed.ensures in
-    record { mark-kept = refl {a = b.mark}; rule_kept = search rules; feeds = d.0; honours = d.1 }
+    record { mark_kept = refl {a = b.mark}; rule_kept = search rules; feeds = d.0; honours = d.1 }

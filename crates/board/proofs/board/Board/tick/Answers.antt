@@ -13,4 +13,4 @@ returns g c =
     let t = c.args.ticket.now in
     let n = model_of (record { rack = c.tick.new.self; mark = b.mark }) c.tick.new.memory in
     let d = ticks p b.mark (model_of b c.args.memory.now) n b.rack.inner.many t.mark t.line (search rules) c.tick.result c.tick.ensures.ticks c.passed.result c.passed.ensures in
-    record { mark-kept = refl {a = b.mark}; rule_kept = search rules; ticks = d.0; honours = d.1 }
+    record { mark_kept = refl {a = b.mark}; rule_kept = search rules; ticks = d.0; honours = d.1 }

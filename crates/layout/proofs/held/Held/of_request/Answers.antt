@@ -1,5 +1,5 @@
 use Rattle.runs.proofs.Requests.{block_holds}
 use Rattle.layout.proofs.held.Held.of_request.Goals as goal
 
-pub invariant-of-result : goal.invariant-of-result
-invariant-of-result c = (block_holds c.args.bytes c.in-Some.shape c.in-Some.ensures.shape, tt)
+pub invariant_of-result : goal.invariant_of-result
+invariant_of-result c = (block_holds c.args.bytes c.in-Some.shape c.in-Some.ensures.shape, tt)

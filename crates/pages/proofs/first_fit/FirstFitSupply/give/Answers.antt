@@ -8,14 +8,14 @@ use Rattle.pages.proofs.first_fit.FirstFitSupply.give.Goals as goal
 
 pub bounds-self-first : goal.bounds-self-first
 bounds-self-first c =
-    let h = c.is-out.ensures.0 c.if-not-is-out.false in
+    let h = c.is_out.ensures.0 c.if-not-is_out.false in
     omega (arith, within c.args.self.now.counts c.args.first (omega arith), c.args.self.now.sized.2)
 
-pub invariant-of-self : goal.invariant-of-self
-invariant-of-self c =
+pub invariant_of-self : goal.invariant_of-self
+invariant_of-self c =
     let s = c.args.self.now in
     let f = c.args.first in
-    let h = c.is-out.ensures.0 c.if-not-is-out.false in
+    let h = c.is_out.ensures.0 c.if-not-is_out.false in
     let l : f < length s.counts = within s.counts f (omega arith) in (
       (s.sized.0, s.sized.1, length-set s.counts f 0 ∙ s.sized.2),
       (clear_inside s.span s.counts f l s.inside, (clear_apart s.counts f l s.apart, tt)),
@@ -28,11 +28,11 @@ returns c =
       largest_kept = refl;
       rule_kept = λ t n. ((λ h. h), (λ h. h));
       choice_kept = λ t n p. ((λ h. h), (λ h. h));
-      given = row_removed s.span c.args.count c.args.first s.counts s.inside s.apart (c.is-out.ensures.0 c.if-not-is-out.false);
+      given = row_removed s.span c.args.count c.args.first s.counts s.inside s.apart (c.is_out.ensures.0 c.if-not-is_out.false);
     }
 
-pub returns-then-not-is-out : goal.returns-then-not-is-out
-returns-then-not-is-out c =
+pub returns-then-not-is_out : goal.returns-then-not-is_out
+returns-then-not-is_out c =
     let s = c.args.self.now in
     record {
       largest_kept = refl;
@@ -42,6 +42,6 @@ returns-then-not-is-out c =
         kept = refl;
         told = refl;
         says = refl;
-        was_not = λ o. both_ways c.is-out.result c.if-not-is-out.true (c.is-out.ensures.1 (o.0, sym (view_at s.span s.counts s.inside c.args.first) ∙ o.1));
+        was_not = λ o. both_ways c.is_out.result c.if-not-is_out.true (c.is_out.ensures.1 (o.0, sym (view_at s.span s.counts s.inside c.args.first) ∙ o.1));
       };
     }

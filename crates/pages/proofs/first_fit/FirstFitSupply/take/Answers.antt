@@ -5,8 +5,8 @@ use Rattle.pages.specs.Tables.{put_inside, put_apart}
 use Rattle.pages.proofs.Rows.{from_view_row, row_added}
 use Rattle.pages.proofs.first_fit.FirstFitSupply.take.Goals as goal
 
-pub invariant-of-self : goal.invariant-of-self
-invariant-of-self c =
+pub invariant_of-self : goal.invariant_of-self
+invariant_of-self c =
     let s = c.args.self.now in
     let e = c.in-Some.ensures.0 in
     let l : c.in-Some.first < length s.counts = omega arith in (

@@ -2,8 +2,8 @@
 use Rattle.pages.proofs.Laws.{table_of}
 use Rattle.pages.proofs.tracked.Tracked.give.Goals as goal
 
-pub invariant-of-self : goal.invariant-of-self
-invariant-of-self g c =
+pub invariant_of-self : goal.invariant_of-self
+invariant_of-self g c =
     let s = c.give-answer.new.self in
     let m = g.met.S.Supply in
     (c.of.ensures.0, table_of c.of.result.view (g.S.View.view s) c.of.ensures.1 (m.span_bounds s) (m.inside s) (m.apart s))

@@ -12,8 +12,8 @@ added g c =
     let d = s.pages.supply in
     subst (λ (n : ℕ). Added (g.S.Supply.largest d) (g.S.Supply.fits d) (g.S.Supply.chooses d) n s.pages.witness.view c.take.new.self.witness.view c.in-Ok.taken) c.count.ensures.is c.in-Ok.ensures.taken
 
-pub invariant-of-self-in-Ok : goal.invariant-of-self-in-Ok
-invariant-of-self-in-Ok g c =
+pub invariant_of-self-in-Ok : goal.invariant_of-self-in-Ok
+invariant_of-self-in-Ok g c =
     let s = c.args.self.now in
     let d = s.pages.supply in
     let e = c.new-run.ensures in
@@ -35,6 +35,6 @@ returns-in-Ok g c =
         begun_is (g.S.Supply.largest d) (g.S.Supply.fits d) (g.S.Supply.chooses d) c.args.shape s.runs.table c.put.new.self.table s.pages.witness.view c.take.new.self.witness.view c.in-Some.index c.in-Ok.taken c.new-run.result
             (subst (λ (n : ℕ). Added (g.S.Supply.largest d) (g.S.Supply.fits d) (g.S.Supply.chooses d) n s.pages.witness.view c.take.new.self.witness.view c.in-Ok.taken) c.count.ensures.is t.taken)
             c.in-Some.ensures c.put.ensures e.first e.shape e.slots,
-        c.block-of.ensures,
+        c.block_of.ensures,
       );
     }

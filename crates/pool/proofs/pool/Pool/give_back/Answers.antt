@@ -4,8 +4,8 @@ use Rattle.runs.specs.declared.shape.Shape.{Shape}
 use Rattle.pool.proofs.Returns.{out_here, state_closed}
 use Rattle.pool.proofs.pool.Pool.give_back.Goals as goal
 
-pub invariant-of-self : goal.invariant-of-self
-invariant-of-self g c =
+pub invariant_of-self : goal.invariant_of-self
+invariant_of-self g c =
     let s = c.args.self.now in
     let r = c.args.run in
     let n : c.count.result ≡ r.shape.count = c.count.ensures.is ∙ ap (λ (z : Shape). z.count) c.shape.ensures in

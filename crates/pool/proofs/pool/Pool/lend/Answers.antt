@@ -5,13 +5,13 @@ use Rattle.pool.proofs.States.{state_lend, lent_within}
 use Rattle.pool.proofs.Lending.{lent_by, size_lent}
 use Rattle.pool.proofs.pool.Pool.lend.Goals as goal
 
-pub invariant-of-self : goal.invariant-of-self
-invariant-of-self g c =
+pub invariant_of-self : goal.invariant_of-self
+invariant_of-self g c =
     let s = c.args.self.now in
     state_lend c.in-Some.class.number s.runs.table c.lend.new.self.table s.pages.witness.view c.lend.result c.lend.ensures (s.out, (s.differ, (s.used, tt)))
 
-pub block-of-requires : goal.block-of-requires
-block-of-requires g c =
+pub block_of-requires : goal.block_of-requires
+block_of-requires g c =
     let s = c.args.self.now in
     lent_within c.in-Some.class.number s.runs.table c.lend.new.self.table c.in-Some-lend.spot c.in-Some-lend.ensures
 
@@ -26,5 +26,5 @@ returns-in-Some-lend g c =
     let e : c.args.shape.class ≡ Some k = sym c.class.ensures ∙ c.in-Some.is in
     record {
       pages = refl;
-      lends = (p, lent_by c.args.shape k rs ts p e h, c.block-of.ensures, ap (λ (b : Block). b.size) c.block-of.ensures ∙ size_lent c.args.shape k rs ts p e h);
+      lends = (p, lent_by c.args.shape k rs ts p e h, c.block_of.ensures, ap (λ (b : Block). b.size) c.block_of.ensures ∙ size_lent c.args.shape k rs ts p e h);
     }

@@ -4,12 +4,12 @@ use Rattle.pool.proofs.States.{State}
 use Rattle.pool.proofs.Returns.{more_than, state_restore}
 use Rattle.pool.proofs.pool.Pool.restore.Goals as goal
 
-pub invariant-of-self : goal.invariant-of-self
-invariant-of-self g c =
+pub invariant_of-self : goal.invariant_of-self
+invariant_of-self g c =
     let s = c.args.self.now in
     let p = c.args.spot in
     let rs = s.runs.table in
     let v = s.pages.witness.view in
     let st : State rs v = (s.out, (s.differ, (s.used, tt))) in
     state_restore rs v st p.index p.run c.requires.0 p.slot c.restore.new.self.table c.requires.1
-    (more_than rs v st p.index p.run c.requires.0 (sym c.if-has-one-on-loan.ensures)) c.restore.ensures
+    (more_than rs v st p.index p.run c.requires.0 (sym c.if-has_one_on_loan.ensures)) c.restore.ensures

@@ -4,8 +4,8 @@ use Rattle.runs.specs.Shapes.{block_size}
 use Rattle.pool.proofs.Lending.{slot_ends}
 use Rattle.pool.proofs.pool.take.block_of.Goals as goal
 
-pub overflow-add-result : goal.overflow-add-result
-overflow-add-result c =
+pub overflow_add-result : goal.overflow_add-result
+overflow_add-result c =
     let s = c.args.spot.run.shape in
     let z : c.size-size.result ≡ block_size s = c.size-size.ensures.is ∙ ap block_size c.shape.ensures in
     let e : c.args.spot.slot * c.size-size.result ≡ c.args.spot.slot * block_size s = ap (λ (n : ℕ). c.args.spot.slot * n) z in

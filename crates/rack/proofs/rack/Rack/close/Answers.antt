@@ -17,8 +17,8 @@ close-requires g c =
     let u : InUse (line s.inner.lines n) = search rules in
     record { within = c.in-Ok.ensures.found.1; lent = ∥∥₁_map (s.lent n u) (λ b. (block_at w (line s.inner.lines n), b, refl)) }
 
-pub invariant-of-self : goal.invariant-of-self
-invariant-of-self g c =
+pub invariant_of-self : goal.invariant_of-self
+invariant_of-self g c =
     let s = c.args.self.now in
     let n = c.args.line in
     let ls = s.inner.lines in

@@ -5,8 +5,8 @@ use Rattle.rack.specs.declared.line.Line.{Line}
 use Rattle.rack.proofs.Keeping.{Tidy, parts, tidy_new}
 use Rattle.rack.proofs.rack.Rack.new.Goals as goal
 
-pub invariant-of-result : goal.invariant-of-result
-invariant-of-result g c =
+pub invariant_of-result : goal.invariant_of-result
+invariant_of-result g c =
     let w = get_or c.of-witness.result.view 0 0 in
     let P : Block → Type 0 = λ b. ∥ BlockOnLoan c.new.result.pool.runs.table b ∥₁ in
     (c.of-witness.ensures.0, parts (subst (λ (ls : List Line). Tidy P w ls) (sym c.new.ensures.lines) (tidy_new P w)))

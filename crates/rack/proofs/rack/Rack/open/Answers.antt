@@ -12,8 +12,8 @@ use Rattle.rack.proofs.Rooms.{width_is}
 use Rattle.rack.proofs.Parts.{tidy_of}
 use Rattle.rack.proofs.rack.Rack.open.Goals as goal
 
-pub invariant-of-self : goal.invariant-of-self
-invariant-of-self g c =
+pub invariant_of-self : goal.invariant_of-self
+invariant_of-self g c =
     let s = c.args.self.now in
     let p = c.open.new.self.pool in
     let n = c.args.line in

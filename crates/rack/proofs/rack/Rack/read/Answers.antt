@@ -3,8 +3,8 @@ use Rattle.rack.proofs.Parts.{housed}
 use Rattle.rack.proofs.Rooms.{width_is, position_within}
 use Rattle.rack.proofs.rack.Rack.read.Goals as goal
 
-pub slice-bounds-read-end : goal.slice-bounds-read-end
-slice-bounds-read-end g c =
+pub slice_bounds-read-end : goal.slice_bounds-read-end
+slice_bounds-read-end g c =
     let s = c.args.self.now in
     let met = g.met.K.Kind in
     let w = c.width-width.result in

@@ -7,8 +7,8 @@ use Rattle.rack.proofs.Keeping.{Tidy, parts, tidy_rung, tidy_to}
 use Rattle.rack.proofs.Parts.{tidy_of}
 use Rattle.rack.proofs.rack.Rack.ring.Goals as goal
 
-pub invariant-of-self : goal.invariant-of-self
-invariant-of-self g c =
+pub invariant_of-self : goal.invariant_of-self
+invariant_of-self g c =
     let s = c.args.self.now in
     let n = c.args.line in
     let ls = s.inner.lines in

@@ -16,15 +16,15 @@ within s w l n e wide same u =
     let h = housed s w e wide in
     position_within _ _ s.inner.lines w h l n same u l.next (next_within _ _ s.inner.lines w h l n same u)
 
-pub slice-bounds-code-end : goal.slice-bounds-code-end
-slice-bounds-code-end g c =
+pub slice_bounds-code-end : goal.slice_bounds-code-end
+slice_bounds-code-end g c =
     let s = c.args.self.now in
     let met = g.met.K.Kind in
     let e = width_is g.K.Kind.wide (g.K.View.view s.witness.subject) s.witness.view c.known.ensures (met.viewed s.witness.subject) ∙ sym c.width-width.ensures in
     omega (arith, within s c.width-width.result c.args.line c.args.n e (omega (arith, met.least, c.width-width.ensures)) c.requires.found c.requires.used, c.requires.whole)
 
-pub invariant-of-self : goal.invariant-of-self
-invariant-of-self g c =
+pub invariant_of-self : goal.invariant_of-self
+invariant_of-self g c =
     let s = c.args.self.now in
     let n = c.args.n in
     let ls = s.inner.lines in
@@ -48,6 +48,6 @@ returns g c =
     let put = part_written at w wide c.args.memory.now c.code.new.out bytes c.width-width.ensures fits (met.long c.args.sample) c.code.ensures in
     record {
       lines = c.advance.ensures.lines ∙ ap (λ (x : Line). set s.inner.lines c.args.n (fed x)) (sym c.requires.found);
-      pool-kept = c.advance.ensures.pool;
+      pool_kept = c.advance.ensures.pool;
       memory = put ∙ ap (λ (x : ℕ). patched c.args.memory.now (c.args.line.offset + c.args.line.next * x) bytes) c.width-width.ensures;
     }

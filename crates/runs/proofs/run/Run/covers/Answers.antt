@@ -2,5 +2,5 @@
 use Rattle.std.proofs.Common.{arith}
 use Rattle.runs.proofs.run.Run.covers.Goals as goal
 
-pub overflow-add-result : goal.overflow-add-result
-overflow-add-result c = omega (arith, c.first-then-first-page.ensures.small, c.count.ensures.few.1)
+pub overflow_add-result : goal.overflow_add-result
+overflow_add-result c = omega (arith, c.first-then-first-page.ensures.small, c.count.ensures.few.1)

@@ -17,31 +17,31 @@ more s k e =
     ∙ ap (λ n. n + 1) (sym s.counted)
 
 pub bounds-self-s : goal.bounds-self-s
-bounds-self-s c = let s = c.args.self.now in omega (arith, s.small, within s c.args.s c.if-is-set.ensures)
+bounds-self-s c = let s = c.args.self.now in omega (arith, s.small, within s c.args.s c.if-is_set.ensures)
 
-pub bounds-self-s-then-is-set : goal.bounds-self-s-then-is-set
-bounds-self-s-then-is-set c = let s = c.args.self.now in omega (arith, s.small, within s c.args.s c.if-is-set.ensures)
+pub bounds-self-s-then-is_set : goal.bounds-self-s-then-is_set
+bounds-self-s-then-is_set c = let s = c.args.self.now in omega (arith, s.small, within s c.args.s c.if-is_set.ensures)
 
-pub overflow-add-self : goal.overflow-add-self
-overflow-add-self c =
+pub overflow_add-self : goal.overflow_add-self
+overflow_add-self c =
     let s = c.args.self.now in
     let h : s.free < 65535 = omega (arith, s.small, s.counted, clear_in_le (bits s.words s.total), length_bits s.words s.total) in
     search rules
 
-pub invariant-of-self : goal.invariant-of-self
-invariant-of-self c =
+pub invariant_of-self : goal.invariant_of-self
+invariant_of-self c =
     let s = c.args.self.now in
-    let h : c.args.s < 256 = omega (arith, s.small, within s c.args.s c.if-is-set.ensures) in
+    let h : c.args.s < 256 = omega (arith, s.small, within s c.args.s c.if-is_set.ensures) in
     let l : c.args.s / 32 < length s.words = search rules in
-    (s.small, (sym (ap clear_in (bits_and_not s.words s.total c.args.s l (within s c.args.s c.if-is-set.ensures)) ∙ more s c.args.s c.if-is-set.ensures), tt))
+    (s.small, (sym (ap clear_in (bits_and_not s.words s.total c.args.s l (within s c.args.s c.if-is_set.ensures)) ∙ more s c.args.s c.if-is_set.ensures), tt))
 
-pub returns-then-is-set : goal.returns-then-is-set
+pub returns-then-is_set : goal.returns-then-is_set
 unfolding loans
-returns-then-is-set c =
+returns-then-is_set c =
     let s = c.args.self.now in
-    let h : c.args.s < 256 = omega (arith, s.small, within s c.args.s c.if-is-set.ensures) in
+    let h : c.args.s < 256 = omega (arith, s.small, within s c.args.s c.if-is_set.ensures) in
     let l : c.args.s / 32 < length s.words = search rules in
-    bits_and_not s.words s.total c.args.s l (within s c.args.s c.if-is-set.ensures)
+    bits_and_not s.words s.total c.args.s l (within s c.args.s c.if-is_set.ensures)
 
-pub returns-else-is-set : goal.returns-else-is-set
-returns-else-is-set c = set_same (loans c.args.self.now) c.args.s false false (sym c.if-is-set.ensures)
+pub returns-else-is_set : goal.returns-else-is_set
+returns-else-is_set c = set_same (loans c.args.self.now) c.args.s false false (sym c.if-is_set.ensures)

@@ -5,8 +5,8 @@ use Rattle.runs.specs.Loans.{loans}
 use Rattle.runs.proofs.Bitmaps.{bits_zeros, clear_in_none}
 use Rattle.runs.proofs.slots.Slots.new.Goals as goal
 
-pub invariant-of-result : goal.invariant-of-result
-invariant-of-result c = let n = c.args.total in (c.requires, (sym (ap clear_in (bits_zeros 8 n) ∙ clear_in_none n), tt))
+pub invariant_of-result : goal.invariant_of-result
+invariant_of-result c = let n = c.args.total in (c.requires, (sym (ap clear_in (bits_zeros 8 n) ∙ clear_in_none n), tt))
 
 pub returns : goal.returns
 unfolding loans

@@ -6,7 +6,7 @@ use Rattle.runs.specs.declared.run.Run.{Run}
 use Rattle.runs.specs.Table.{serves}
 use Rattle.runs.proofs.Places.{BestIn, best_all, best_skip, best_keeps, best_first, best_takes}
 use Rattle.runs.proofs.table.Runs.fullest.Goals as goal
-use Rattle.runs.proofs.table.Runs.fullest.Goals.{in-Some+then-serves+in-Some-best+then-precedes, in-Some+then-serves+in-Some-best+else-precedes, in-Some+then-serves+in-None, in-Some+else-serves, in-default}
+use Rattle.runs.proofs.table.Runs.fullest.Goals.{in-Some+then-serves+in-Some-best+then-precedes, in-Some+then-serves+in-Some-best+else-precedes, in-Some+then-serves+in-None, in-Some+else-serves, in_default}
 
 pub returns-in-Some-best-2 : goal.returns-in-Some-best-2
 returns-in-Some-best-2 c =
@@ -46,7 +46,7 @@ loop-i-preserved c =
       | in-Some+else-serves w ↦
           subst (BestIn cl rs (i + 1)) (sym w.best-is)
           (best_skip cl rs i c.loop-i.best c.loop-i.invariant (ap (serves cl) (here c _ w.in-Some.is) ∙ sym w.if-serves.ensures))
-      | in-default w ↦
+      | in_default w ↦
           subst (BestIn cl rs (i + 1)) (sym w.best-is)
-          (best_skip cl rs i c.loop-i.best c.loop-i.invariant (ap (serves cl) (here c _ w.in-default.is)))
+          (best_skip cl rs i c.loop-i.best c.loop-i.invariant (ap (serves cl) (here c _ w.in_default.is)))
     ]

@@ -10,11 +10,11 @@ returns-in-Some c =
     restore_at_lem rs c.args.index c.in-Some.run'.now c.restore.new.self c.args.slot
     (get_or_default rs c.args.index None c.index-table-index.result c.if-index-table.true ∙ sym c.in-Some.ensures.value) c.restore.ensures
 
-pub returns-in-default : goal.returns-in-default
-returns-in-default c =
+pub returns-in_default : goal.returns-in_default
+returns-in_default c =
     let rs = c.args.table.now in
     restore_none rs _ c.args.index c.args.slot
-    (get_or_default rs c.args.index None c.index-table-index.result c.if-index-table.true ∙ sym c.in-default.ensures.value)
+    (get_or_default rs c.args.index None c.index-table-index.result c.if-index-table.true ∙ sym c.in_default.ensures.value)
     (set-get_or rs c.args.index c.index-table-index.result)
 
 pub returns-else-index-table : goal.returns-else-index-table
