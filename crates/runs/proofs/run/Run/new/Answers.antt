@@ -5,4 +5,4 @@ use Rattle.runs.proofs.run.Run.new.Goals as goal
 
 pub invariant_of-result : goal.invariant_of-result
 invariant_of-result c =
-    (ap length c.set.ensures ∙ length-set _ _ true ∙ ap length c.new-slots.ensures ∙ length-replicate c.slots.result false ∙ c.slots.ensures.is, tt)
+    record { cut = ap length c.set.ensures ∙ length-set _ _ true ∙ ap length c.new-slots.ensures ∙ length-replicate c.slots.result false ∙ c.slots.ensures.is }

@@ -33,7 +33,7 @@ invariant_of-self c =
     let s = c.args.self.now in
     let h : c.args.s < 256 = omega (arith, s.small, within s c.args.s c.if-is_set.ensures) in
     let l : c.args.s / 32 < length s.words = search rules in
-    (s.small, (sym (ap clear_in (bits_and_not s.words s.total c.args.s l (within s c.args.s c.if-is_set.ensures)) ∙ more s c.args.s c.if-is_set.ensures), tt))
+    record { small = s.small; counted = sym (ap clear_in (bits_and_not s.words s.total c.args.s l (within s c.args.s c.if-is_set.ensures)) ∙ more s c.args.s c.if-is_set.ensures) }
 
 pub returns-then-is_set : goal.returns-then-is_set
 unfolding loans

@@ -6,7 +6,7 @@ use Rattle.runs.proofs.Bitmaps.{bits_zeros, clear_in_none}
 use Rattle.runs.proofs.slots.Slots.new.Goals as goal
 
 pub invariant_of-result : goal.invariant_of-result
-invariant_of-result c = let n = c.args.total in (c.requires, (sym (ap clear_in (bits_zeros 8 n) ∙ clear_in_none n), tt))
+invariant_of-result c = let n = c.args.total in record { small = c.requires; counted = sym (ap clear_in (bits_zeros 8 n) ∙ clear_in_none n) }
 
 pub returns : goal.returns
 unfolding loans

@@ -24,7 +24,7 @@ overflow_sub-self c = omega (arith, less c)
 pub invariant_of-self : goal.invariant_of-self
 invariant_of-self c =
     let s = c.args.self.now in
-    (s.small, (omega (arith, less c, ap clear_in (bits_or s.words s.total c.args.s (within c) c.if-s-self.true)), tt))
+    record { small = s.small; counted = omega (arith, less c, ap clear_in (bits_or s.words s.total c.args.s (within c) c.if-s-self.true)) }
 
 pub returns-then-not-is_set : goal.returns-then-not-is_set
 unfolding loans
