@@ -1,5 +1,5 @@
 -- Which shape serves a request, by the size of its blocks.
-use Rattle.std.proofs.Common.{◌≡◌, ℕ, zero, suc, ◌+◌, ◌*◌, ◌/◌, ◌<◌, ◌≤◌, Bool, true, false, ◌⊎◌, Some, None, Option, sym, refl, ap, ◌∙◌, subst, inl, inr, ⊎_elim, arith}
+use Rattle.std.proofs.Common.{◌≡◌, ℕ, zero, suc, ◌+◌, ◌/◌, ◌<◌, ◌≤◌, ◌⊎◌, Some, None, Option, sym, refl, ap, ◌∙◌, subst, inl, inr, ⊎_elim, arith}
 use Rattle.std.proofs.lemmas.Bool.{cases_lt, cases_eq, cases_order}
 use Rattle.classes.specs.declared.class.Class.{Class}
 use Rattle.classes.specs.Rule.{size_of, Smallest}
@@ -9,7 +9,6 @@ use Rattle.classes.proofs.Sizes.{sizes_rise}
 use Rattle.classes.proofs.Requests.{block_of_class, block_of_long}
 use Rattle.runs.specs.declared.shape.Shape.{Shape}
 use Rattle.runs.specs.Shapes.{block_size, size_by, ShapeOf}
-use Rattle.runs.specs.Cut.{Paged}
 
 -- a request has a class, or is too long for one
 pub classed_or_long : (bytes : ℕ) → (bytes ≤ 1792) ⊎ (1792 < bytes)

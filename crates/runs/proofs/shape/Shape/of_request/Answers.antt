@@ -1,5 +1,5 @@
 -- A long request has at most 255 pages; a classed one is within the longest.
-use Rattle.std.proofs.Common.{◌≡◌, sym, refl, arith}
+use Rattle.std.proofs.Common.{sym, refl, arith}
 use Rattle.classes.proofs.Requests.{block_of_class, block_of_long}
 use Rattle.runs.proofs.shape.Shape.of_request.Goals as goal
 
