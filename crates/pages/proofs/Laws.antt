@@ -4,5 +4,5 @@ use Rattle.pages.specs.Limits.{max_span}
 use Rattle.pages.specs.Table.{Inside, Apart}
 
 pub table_of : (v u : List ℕ) → v ≡ u → (0 < length u) × (length u ≤ max_span) → Inside (length u) u → Apart u
-    → ((0 < length v) × (length v ≤ max_span)) × (Inside (length v) v × (Apart v × Unit {0}))
-table_of v u e l i a = subst (λ (t : List ℕ). ((0 < length t) × (length t ≤ max_span)) × (Inside (length t) t × (Apart t × Unit {0}))) (sym e) (l, (i, (a, tt)))
+    → ((0 < length v) × (length v ≤ max_span)) × Inside (length v) v × Apart v
+table_of v u e l i a = subst (λ (t : List ℕ). ((0 < length t) × (length t ≤ max_span)) × Inside (length t) t × Apart t) (sym e) (l, i, a)

@@ -6,12 +6,12 @@ use Rattle.pages.proofs.table.total.Goals as goal
 
 pub loop-count-preserved : goal.loop-count-preserved
 loop-count-preserved c =
-    let l : c.loop-count.count_index < length c.args.counts.now = omega arith in
-    let e = sum_by_more (λ x. x) c.args.counts.now c.loop-count.count_index 0 l in
+    let l : c.loop-count.count-index < length c.args.counts.now = omega arith in
+    let e = sum_by_more (λ x. x) c.args.counts.now c.loop-count.count-index 0 l in
     (omega (arith, e), omega arith)
 
 pub returns : goal.returns
 returns c =
-    let l : length c.args.counts.now ≤ c.loop-count.count_index = omega arith in
-    let e = ap sum (take_all c.loop-count.count_index c.args.counts.now l) in
+    let l : length c.args.counts.now ≤ c.loop-count.count-index = omega arith in
+    let e = ap sum (take_all c.loop-count.count-index c.args.counts.now l) in
     omega (arith, e, c.loop-count.invariant.0)

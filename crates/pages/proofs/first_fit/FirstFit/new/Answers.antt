@@ -11,10 +11,7 @@ invariant_of-result c =
     let t = c.blank.result in
     let n = blank_nothing t c.blank.ensures in
     let s : (0 < c.match-check_span.span) × (c.match-check_span.span ≤ max_span) =
-    elim c.match-check_span.branch [ in-Ok w ↦ let b = good_bounds c.args.span w.in-Ok.ensures in (omega (arith, w.span-is), omega (arith, w.span-is)) | in-Err w ↦ (omega (arith, w.span-is), omega (arith, w.span-is)) ] in (
-      (s.0, s.1, blank_long t c.blank.ensures),
-      ((λ f h. omega (arith, n f)), ((λ f g l h. omega (arith, n g)), tt)),
-    )
+    elim c.match-check_span.branch [ in-Ok w ↦ let b = good_bounds c.args.span w.in-Ok.ensures in (omega (arith, w.span-is), omega (arith, w.span-is)) | in-Err w ↦ (omega (arith, w.span-is), omega (arith, w.span-is)) ] in record { sized = (s.0, s.1, blank_long t c.blank.ensures); inside = (λ f h. omega (arith, n f)); apart = (λ f g l h. omega (arith, n g)) }
 
 pub returns : goal.returns
 returns c =

@@ -16,10 +16,7 @@ invariant_of-self c =
     let s = c.args.self.now in
     let f = c.args.first in
     let h = c.is_out.ensures.0 c.if-not-is_out.false in
-    let l : f < length s.counts = within s.counts f (omega arith) in (
-      (s.sized.0, s.sized.1, length-set s.counts f 0 ∙ s.sized.2),
-      (clear_inside s.span s.counts f l s.inside, (clear_apart s.counts f l s.apart, tt)),
-    )
+    let l : f < length s.counts = within s.counts f (omega arith) in record { sized = (s.sized.0, s.sized.1, length-set s.counts f 0 ∙ s.sized.2); inside = clear_inside s.span s.counts f l s.inside; apart = clear_apart s.counts f l s.apart }
 
 pub returns : goal.returns
 returns c =

@@ -9,13 +9,7 @@ pub invariant_of-self : goal.invariant_of-self
 invariant_of-self c =
     let s = c.args.self.now in
     let e = c.in-Some.ensures.0 in
-    let l : c.in-Some.first < length s.counts = omega arith in (
-      (omega arith, omega arith, length-set s.counts c.in-Some.first c.args.count ∙ s.sized.2),
-      (
-        put_inside s.span s.counts c.in-Some.first c.args.count l e.0 s.inside,
-        (put_apart s.counts c.in-Some.first c.args.count l e.1 s.apart, tt),
-      ),
-    )
+    let l : c.in-Some.first < length s.counts = omega arith in record { sized = (omega arith, omega arith, length-set s.counts c.in-Some.first c.args.count ∙ s.sized.2); inside = put_inside s.span s.counts c.in-Some.first c.args.count l e.0 s.inside; apart = put_apart s.counts c.in-Some.first c.args.count l e.1 s.apart }
 
 pub returns-in-None : goal.returns-in-None
 returns-in-None c =
