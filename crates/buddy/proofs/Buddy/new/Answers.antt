@@ -17,13 +17,7 @@ invariant_of-result c =
     let none = blank_nothing t c.blank.ensures in
     let e : n ≡ granted_span good c.args.span =
     elim c.match-check_buddy_span.branch [ in-Ok w ↦ granted_good good c.args.span n w.span-is w.in-Ok.ensures.checked | in-Err w ↦ granted_bad good c.args.span n w.span-is w.in-Err.ensures.checked.0 ] in
-    let s = granted_has good c.args.span n (λ m. (0 < m) × (m ≤ max_span) × (power_for m ≡ m)) e (good_power c.args.span) one_power in (
-      (s.0, s.1, blank_long t c.blank.ensures, s.2),
-      (
-        (λ f h. omega (arith, reserve_none t f (none f))),
-        ((λ f g l h. omega (arith, reserve_none t g (none g))), ((λ g h. omega (arith, none g)), tt)),
-      ),
-    )
+    let s = granted_has good c.args.span n (λ m. (0 < m) × (m ≤ max_span) × (power_for m ≡ m)) e (good_power c.args.span) one_power in record { sized = (s.0, s.1, blank_long t c.blank.ensures, s.2); inside = (λ f h. omega (arith, reserve_none t f (none f))); apart = (λ f g l h. omega (arith, reserve_none t g (none g))); aligned = (λ g h. omega (arith, none g)) }
 
 pub returns : goal.returns
 returns c =

@@ -21,16 +21,7 @@ invariant_of-self c =
     let h = c.is_out.ensures.0 c.if-not-is_out.false in
     let l : f < length s.counts = within s.counts f (omega arith) in
     let m : f < length (reserves s.counts) = omega (arith, length-map s.counts reserve) in
-    let r = sym (reserves_clear s.counts f) in (
-      (s.sized.0, s.sized.1, length-set s.counts f 0 ∙ s.sized.2, s.sized.3),
-      (
-        subst (λ (t : List ℕ). Inside s.span t) r (clear_inside s.span (reserves s.counts) f m s.inside),
-        (
-          subst (λ (t : List ℕ). Apart t) r (clear_apart (reserves s.counts) f m s.apart),
-          (clear_aligned s.counts f l s.aligned, tt),
-        ),
-      ),
-    )
+    let r = sym (reserves_clear s.counts f) in record { sized = (s.sized.0, s.sized.1, length-set s.counts f 0 ∙ s.sized.2, s.sized.3); inside = subst (λ (t : List ℕ). Inside s.span t) r (clear_inside s.span (reserves s.counts) f m s.inside); apart = subst (λ (t : List ℕ). Apart t) r (clear_apart (reserves s.counts) f m s.apart); aligned = clear_aligned s.counts f l s.aligned }
 
 pub returns : goal.returns
 returns c =

@@ -18,16 +18,7 @@ invariant_of-self c =
     let z = power_pos n in
     let l : f < length s.counts = omega (arith, e.1) in
     let m : f < length (reserves s.counts) = omega (arith, length-map s.counts reserve) in
-    let r = sym (reserves_set s.counts f n p) in (
-      (omega arith, omega arith, length-set s.counts f n ∙ s.sized.2, s.sized.3),
-      (
-        subst (λ (t : List ℕ). Inside s.span t) r (put_inside s.span (reserves s.counts) f (power_for n) m e.1 s.inside),
-        (
-          subst (λ (t : List ℕ). Apart t) r (put_apart (reserves s.counts) f (power_for n) m e.2 s.apart),
-          (put_aligned s.counts f n l e.0 s.aligned, tt),
-        ),
-      ),
-    )
+    let r = sym (reserves_set s.counts f n p) in record { sized = (omega arith, omega arith, length-set s.counts f n ∙ s.sized.2, s.sized.3); inside = subst (λ (t : List ℕ). Inside s.span t) r (put_inside s.span (reserves s.counts) f (power_for n) m e.1 s.inside); apart = subst (λ (t : List ℕ). Apart t) r (put_apart (reserves s.counts) f (power_for n) m e.2 s.apart); aligned = put_aligned s.counts f n l e.0 s.aligned }
 
 pub returns-in-None : goal.returns-in-None
 returns-in-None c =

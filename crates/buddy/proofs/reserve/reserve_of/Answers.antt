@@ -11,7 +11,7 @@ returns c =
     let n = c.args.count in
     let e = c.next_power_of_two.ensures in
     let r = c.next_power_of_two.result in
-    let is : r ≡ power_for n = power_is n r e.power.0 e.power.1 e.lower-bound e.upper-bound in
+    let is : r ≡ power_for n = power_is n r e.power.0 e.power.1 e.lower_bound e.upper_bound in
     let p : 0 < n = omega arith in
     record {
       value = is ∙ sym (power_reserve n p) ∙ sym (cond-true (leb n max_span) (reserve n) 0 (le-leb n max_span (omega arith)));
