@@ -11,7 +11,8 @@ invariant_of-result g c =
     let p = c.pages_out-pages.result in
     let more : c.if-pages-eq0.more ≡ cond (eqb p 0) 1 0 =
     elim c.if-pages-eq0.branch [ then-pages-eq0 w ↦ w.more-is ∙ sym (cond-true (eqb p 0) 1 0 (eq-eqb p 0 w.if-pages-eq0.true)) | else-pages-eq0 w ↦ w.more-is ∙ sym (cond-false (eqb p 0) 1 0 (ne_eqb p 0 w.if-pages-eq0.false)) ] in
-    new_state p c.if-pages-eq0.more c.new-below.result.witness.view c.pages_out-pages.ensures more
+    let t = new_state p c.if-pages-eq0.more c.new-below.result.witness.view c.pages_out-pages.ensures more in
+    record { one = t.0; above = t.1.0; counted = t.1.1.0 }
 
 pub returns : goal.returns
 returns g c =

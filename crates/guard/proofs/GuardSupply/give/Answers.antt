@@ -1,5 +1,5 @@
 -- The run below, with its extra pages, is given for the run that was handed out.
-use Rattle.std.proofs.Common.{◌≡◌, ℕ, ◌-◌, ◌<◌, List, get_or, sym, refl, ap, ◌∙◌, ⊎_elim, arith}
+use Rattle.std.proofs.Common.{◌≡◌, ℕ, ◌<◌, List, get_or, sym, refl, ap, ◌∙◌, ⊎_elim, arith}
 use Rattle.guard.specs.GuardRule.{extra_of, shorter}
 use Rattle.guard.specs.Guarding.{clear_state, gave, rule_set, rule_kept, choice_set, choice_kept, largest_set, largest_kept, extra_kept, get_or_shorter}
 use Rattle.guard.proofs.GuardSupply.give.Goals as goal
@@ -16,7 +16,8 @@ invariant_of-self g c =
     let s = c.args.self.now in
     let L = g.S.Supply.largest s.below.supply in
     let a = c.in-Ok.ensures.given in
-    (clear_state L L s.more c.extra-more.result c.extra-more.ensures.is refl s.below.witness.view s.above c.args.count (omega arith) c.args.first c.total-pages.result c.give-answer.new.self.witness.view c.extra-more.ensures.one a.was.1 a.after_is c.total-pages.ensures).1
+    let t = (clear_state L L s.more c.extra-more.result c.extra-more.ensures.is refl s.below.witness.view s.above c.args.count (omega arith) c.args.first c.total-pages.result c.give-answer.new.self.witness.view c.extra-more.ensures.one a.was.1 a.after_is c.total-pages.ensures).1 in
+    record { one = t.0; above = t.1.0; counted = t.1.1.0 }
 
 pub returns-then-count-eq0 : goal.returns-then-count-eq0
 returns-then-count-eq0 g c =

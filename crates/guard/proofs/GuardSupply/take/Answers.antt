@@ -16,7 +16,8 @@ invariant_of-self g c =
     let s = c.args.self.now in
     let L = g.S.Supply.largest s.below.supply in
     let a = c.in-Ok.ensures.taken in
-    put_state L L s.more c.extra-more.result c.extra-more.ensures.is refl s.below.witness.view s.above c.args.count (omega arith) c.in-Ok.run'.first c.total-pages.result c.take-answer.new.self.witness.view c.extra-more.ensures.one a.inside a.free a.after_is c.total-pages.ensures
+    let t = put_state L L s.more c.extra-more.result c.extra-more.ensures.is refl s.below.witness.view s.above c.args.count (omega arith) c.in-Ok.run'.first c.total-pages.result c.take-answer.new.self.witness.view c.extra-more.ensures.one a.inside a.free a.after_is c.total-pages.ensures in
+    record { one = t.0; above = t.1.0; counted = t.1.1.0 }
 
 pub returns-in-Ok : goal.returns-in-Ok
 returns-in-Ok g c =
