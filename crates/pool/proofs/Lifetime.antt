@@ -1,25 +1,25 @@
 -- A pool's tables over its whole life, from its making over a supply with nothing out: every run out is one of the pool's.
-use Rattle.std.proofs.Common.{◌≡◌, ℕ, zero, suc, ◌+◌, ◌<◌, ◌≤◌, true, ◌⊎◌, List, length, get_or, set, replicate, Some, None, Ok, Err, Option, Result, sym, refl, ap, ◌∙◌, subst, inl, inr, ⊎_elim, arith, length-set}
+use Rattle.std.proofs.Common.{◌≡◌, ℕ, ◌+◌, ◌<◌, ◌≤◌, true, List, length, get_or, set, replicate, Some, None, Ok, Err, Option, Result, sym, refl, ap, ◌∙◌, subst, ⊎_elim, arith, length-set}
 use lib.ListN.{length-replicate}
 use Rattle.std.proofs.lemmas.List.{get_or-set_same, get_or-set_other, get_or_past}
 use Rattle.std.proofs.lemmas.Bool.{cases_eq, cases_lt, false≢true}
 use Rattle.classes.specs.declared.class.Class.{Class}
 use Rattle.pages.specs.declared.run.Run.{Run as Stretch}
 use Rattle.pages.specs.Table.{Inside, Apart}
-use Rattle.pages.specs.Calls.{Added, Removed}
+use Rattle.pages.specs.Calls.{Removed}
 use Rattle.pages.specs.Tables.{get_or_zeros, at_set, put_inside, put_apart, clear_inside, clear_apart}
 use Rattle.runs.specs.declared.run.Run.{Run}
 use Rattle.runs.specs.declared.shape.Shape.{Shape}
 use Rattle.runs.specs.declared.table.Spot.{Spot}
 use Rattle.runs.specs.Shapes.{slots_in}
-use Rattle.runs.specs.Table.{free, vacant, First, LendsOf, RestoresTo}
+use Rattle.runs.specs.Table.{free, vacant, LendsOf, RestoresTo}
 use Rattle.pool.specs.declared.block.Block.{Block}
 use Rattle.pool.specs.declared.fault.PoolFault.{PoolFault}
 use Rattle.pool.specs.State.{Entry}
 use Rattle.pool.specs.Blocks.{OnLoan}
 use Rattle.pool.specs.Take.{Taken, Lent, Begun}
-use Rattle.pool.specs.Release.{Released, Restored}
-use Rattle.pool.proofs.States.{State, no_run, state_none, none_some, entry_within, at_index, some_same, state_lend}
+use Rattle.pool.specs.Release.{Released}
+use Rattle.pool.proofs.States.{State, no_run, state_none, none_some, entry_within, some_same, state_lend}
 use Rattle.pool.proofs.Lending.{state_begun}
 use Rattle.pool.proofs.Returns.{state_closed, state_restore}
 

@@ -1,5 +1,5 @@
 -- While a run of the request's class has a free slot, no run is begun.
-use Rattle.std.proofs.Common.{◌≡◌, ℕ, true, false, List, get_or, Some, None, Ok, Err, Option, Result, sym, refl, ap, ◌∙◌, subst, ⊎_elim, arith}
+use Rattle.std.proofs.Common.{◌≡◌, ℕ, true, List, get_or, Some, None, Ok, Err, Option, Result, sym, refl, ap, ◌∙◌, subst, ⊎_elim, arith}
 use Rattle.std.proofs.lemmas.Bool.{cases_order, false≢true}
 use Rattle.classes.specs.declared.class.Class.{Class}
 use Rattle.classes.specs.Rule.{Smallest}

@@ -5,7 +5,6 @@ use Rattle.pages.specs.declared.run.Run.{Run as PageRun}
 use Rattle.pages.specs.Table.{SameFits, SameChoice}
 use Rattle.pages.specs.Calls.{Added, NotTaken}
 use Rattle.runs.specs.declared.run.Run.{Run}
-use Rattle.runs.specs.Table.{free}
 use Rattle.pool.specs.declared.block.Block.{Block}
 use Rattle.pool.specs.declared.fault.PoolFault.{PoolFault}
 use Rattle.pool.specs.Take.{Taken}

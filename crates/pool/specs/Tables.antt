@@ -1,16 +1,17 @@
 -- What a pool is seen as: its table of runs, the table of pages of its supply, and the supply.
 use Rattle.std.specs.Prelude.{ℕ, List, Option}
+use Rattle.pages.specs.declared.supply.Supply.{Ghosts}
 use Rattle.runs.specs.declared.run.Run.{Run}
 use Rattle.pool.specs.declared.pool.Pool.{Pool}
 
 -- at each index a run or none
-abbrev pub run_table : {S : Type 0} → Pool S → List (Option Run)
+abbrev pub run_table : {S : Type 0} {g : Ghosts S} → Pool S g → List (Option Run)
 run_table p = p.runs.table
 
 -- at each page the count of the supply's run that begins there, or 0
-abbrev pub page_table : {S : Type 0} → Pool S → List ℕ
+abbrev pub page_table : {S : Type 0} {g : Ghosts S} → Pool S g → List ℕ
 page_table p = p.pages.witness.view
 
 -- the supply below
-abbrev pub supply_of : {S : Type 0} → Pool S → S
+abbrev pub supply_of : {S : Type 0} {g : Ghosts S} → Pool S g → S
 supply_of p = p.pages.supply

@@ -17,8 +17,9 @@ invariant_of-self-in-Ok g c =
     let s = c.args.self.now in
     let d = s.pages.supply in
     let e = c.new-run.ensures in
-    state_begun (g.S.Supply.largest d) (g.S.Supply.fits d) (g.S.Supply.chooses d) c.args.shape s.runs.table c.put.new.self.table s.pages.witness.view c.take.new.self.witness.view c.in-Some.index c.in-Ok.taken c.new-run.result
-    (added g c) c.in-Some.ensures c.put.ensures e.first e.shape e.slots (s.out, (s.differ, (s.used, tt)))
+    let t = state_begun (g.S.Supply.largest d) (g.S.Supply.fits d) (g.S.Supply.chooses d) c.args.shape s.runs.table c.put.new.self.table s.pages.witness.view c.take.new.self.witness.view c.in-Some.index c.in-Ok.taken c.new-run.result
+    (added g c) c.in-Some.ensures c.put.ensures e.first e.shape e.slots (s.out, (s.differ, (s.used, tt))) in
+    record { out = t.0; differ = t.1.0; used = t.1.1.0 }
 
 pub returns-in-Ok : goal.returns-in-Ok
 returns-in-Ok g c =

@@ -8,7 +8,8 @@ use Rattle.pool.proofs.pool.Pool.lend.Goals as goal
 pub invariant_of-self : goal.invariant_of-self
 invariant_of-self g c =
     let s = c.args.self.now in
-    state_lend c.in-Some.class.number s.runs.table c.lend.new.self.table s.pages.witness.view c.lend.result c.lend.ensures (s.out, (s.differ, (s.used, tt)))
+    let t = state_lend c.in-Some.class.number s.runs.table c.lend.new.self.table s.pages.witness.view c.lend.result c.lend.ensures (s.out, (s.differ, (s.used, tt))) in
+    record { out = t.0; differ = t.1.0; used = t.1.1.0 }
 
 pub block_of-requires : goal.block_of-requires
 block_of-requires g c =

@@ -11,5 +11,6 @@ invariant_of-self g c =
     let rs = s.runs.table in
     let v = s.pages.witness.view in
     let st : State rs v = (s.out, (s.differ, (s.used, tt))) in
-    state_restore rs v st p.index p.run c.requires.0 p.slot c.restore.new.self.table c.requires.1
-    (more_than rs v st p.index p.run c.requires.0 (sym c.if-has_one_on_loan.ensures)) c.restore.ensures
+    let t = state_restore rs v st p.index p.run c.requires.0 p.slot c.restore.new.self.table c.requires.1
+    (more_than rs v st p.index p.run c.requires.0 (sym c.if-has_one_on_loan.ensures)) c.restore.ensures in
+    record { out = t.0; differ = t.1.0; used = t.1.1.0 }
