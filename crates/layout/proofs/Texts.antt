@@ -1,5 +1,5 @@
 -- A text that writes a length is ASCII, and so UTF-8.
-use Rattle.std.proofs.Common.{◌≡◌, ℕ, Bool, true, false, cond, eqb, List, [], ◌∷◌, drop, IsAscii, subst, ⊎_elim, arith}
+use Rattle.std.proofs.Common.{ℕ, Bool, cond, List, [], ◌∷◌, drop, IsAscii, subst, ⊎_elim, arith}
 use Rattle.std.specs.Str.Parse.{AllDigits}
 use Rattle.std.proofs.lemmas.Str.Ascii.{IsAscii-nil, IsAscii-cons}
 use Rattle.std.proofs.lemmas.Fmt.{IsAscii-from_digits}
