@@ -1,5 +1,5 @@
 -- A buddy supply of 16 pages: where 5, 3 and 4 pages go, and that no page is left.
-use Rattle.std.proofs.Common.{◌≡◌, ℕ, ◌+◌, ◌%◌, ◌<◌, ◌≤◌, ◌⊎◌, List, set, replicate, Result, sym, refl, ap, ◌∙◌, subst, inl, ⊎_elim, arith}
+use Rattle.std.proofs.Common.{◌≡◌, ℕ, ◌+◌, ◌%◌, ◌<◌, ◌≤◌, List, set, replicate, Result, sym, refl, ap, ◌∙◌, subst, inl, ⊎_elim, arith}
 use Rattle.std.proofs.lemmas.Bool.{cases_lt}
 use Rattle.pages.specs.declared.fault.SupplyFault.{SupplyFault}
 use Rattle.pages.specs.declared.run.Run.{Run}

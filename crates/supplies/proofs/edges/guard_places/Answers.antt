@@ -2,16 +2,17 @@
 use Rattle.std.proofs.Common.{◌≡◌, ℕ, ◌-◌, List, take, replicate, ap, ◌∙◌, arith}
 use Rattle.pages.specs.FirstFitRule.{FirstFits, LowestRow}
 use Rattle.pages.specs.declared.first_fit.FirstFit.{FirstFit}
+use Rattle.pages.specs.declared.supply.Supply.{Ghosts}
 use Rattle.guard.specs.declared.Guard.{Guard}
 use Rattle.guard.specs.GuardRule.{extra_of, extra_pages, shorter, GuardFits, GuardChooses}
 use Rattle.supplies.proofs.GuardEdge.{g0, fits, chooses, same_rule, same_choice_rule, went4, went5}
 use Rattle.supplies.proofs.Lands.{same_fits, same_choices}
 use Rattle.supplies.proofs.edges.guard_places.Goals as goal
 
-abbrev extra : Guard FirstFit → ℕ
+abbrev extra : {g : Ghosts FirstFit} → Guard FirstFit g → ℕ
 extra s = extra_of s.below.supply.span s.more
 
-abbrev table : Guard FirstFit → List ℕ
+abbrev table : {g : Ghosts FirstFit} → Guard FirstFit g → List ℕ
 table s = shorter (extra s) (take s.below.supply.span s.below.supply.counts)
 
 pub returns : goal.returns
