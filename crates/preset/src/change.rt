@@ -27,8 +27,8 @@ fn enter<S: Supply, K: Kind + Drop>(
     voice: Voice<K::Sample>,
 ) -> Result<Entered<K::Sample>, RackFault>
     ensures mark_kept { mark_of board.new ≡ mark_of board.old }
-    ensures rule_kept { SameRule (rule_of S.Supply (supply_of board.old)) (rule_of S.Supply (supply_of board.new)) }
-    ensures enters { EntersOr (rule_of S.Supply (supply_of board.old)) (coding wide silent coded heard) (mark_of board.old) (model_of board.old memory.old) (model_of board.new memory.new) voice result }
+    ensures rule_kept { SameRule (rule_of S.Supply.own (supply_of board.old)) (rule_of S.Supply.own (supply_of board.new)) }
+    ensures enters { EntersOr (rule_of S.Supply.own (supply_of board.old)) (coding K.wide K.silent K.coded K.heard) (mark_of board.old) (model_of board.old memory.old) (model_of board.new memory.new) voice result }
 {
     match board.open(voice.line, voice.length) {
         Err(fault) => Err(fault),
@@ -49,8 +49,8 @@ fn leave<S: Supply, K: Kind + Drop>(
     requires own { ticket.mark ≡ mark_of board.old }
     requires valid { Valid (model_of board.old memory.old) ticket.line state.Playing }
     ensures mark_kept { mark_of board.new ≡ mark_of board.old }
-    ensures rule_kept { SameRule (rule_of S.Supply (supply_of board.old)) (rule_of S.Supply (supply_of board.new)) }
-    ensures leaves { Leaves (rule_of S.Supply (supply_of board.old)) (coding wide silent coded heard) (model_of board.old memory.old) (model_of board.new memory.new) ticket.line result }
+    ensures rule_kept { SameRule (rule_of S.Supply.own (supply_of board.old)) (rule_of S.Supply.own (supply_of board.new)) }
+    ensures leaves { Leaves (rule_of S.Supply.own (supply_of board.old)) (coding K.wide K.silent K.coded K.heard) (model_of board.old memory.old) (model_of board.new memory.new) ticket.line result }
 {
     match board.ring(ticket) {
         Err(_) => unreachable(),
@@ -72,7 +72,7 @@ pub fn change<S: Supply, K: Kind + Drop>(
     old: Voice<K::Sample>,
     new: Voice<K::Sample>,
 ) -> Result<Heard<K::Sample>, RackFault>
-    ensures { Changes (rule_of S.Supply (supply_of board.old)) (coding wide silent coded heard) (model_of board.old memory.old) (model_of board.new memory.new) old new result }
+    ensures { Changes (rule_of S.Supply.own (supply_of board.old)) (coding K.wide K.silent K.coded K.heard) (model_of board.old memory.old) (model_of board.new memory.new) old new result }
 {
     match enter(board, memory, old) {
         Err(fault) => Err(fault),

@@ -6,7 +6,7 @@ use Rattle.std.proofs.lemmas.Bool.{cases_eq}
 use Rattle.std.proofs.lemmas.Bool.Decides.{nat_tests}
 use Rattle.pool.specs.declared.block.Block.{Block}
 use Rattle.rack.specs.declared.line.Line.{Line}
-use Rattle.rack.specs.Lines.{unused, line, used, InUse, fresh, fed, rung, after}
+use Rattle.rack.specs.Lines.{unused, line, used, InUse, fresh, fed, rung}
 use Rattle.rack.specs.Holds.{block_at, Placed, Short, Lent, OffsetsDiffer}
 
 pub record Tidy (P : Block → Type 0) (w : ℕ) (ls : List Line) : Type 0 where
@@ -17,9 +17,6 @@ pub record Tidy (P : Block → Type 0) (w : ℕ) (ls : List Line) : Type 0 where
   pub differ : OffsetsDiffer ls
 
 -- the same, as a ghost field's need has it
-pub parts : {P : Block → Type 0} {w : ℕ} {ls : List Line} → Tidy P w ls → Placed ls × (Short w ls × (Lent P w ls × (OffsetsDiffer ls × Unit {0})))
-parts t = (t.placed, (t.short, (t.lent, (t.differ, tt))))
-
 -- the line k after a write to the line n
 pub line_cases : (ls : List Line) (n : ℕ) (l : Line) (k : ℕ) → n < length ls → ((k ≡ n) × (line (set ls n l) k ≡ l)) ⊎ ((k ≡ n → ⊥) × (line (set ls n l) k ≡ line ls k))
 line_cases ls n l k h =

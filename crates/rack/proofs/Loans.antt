@@ -7,14 +7,14 @@ use Rattle.runs.proofs.Requests.{size_of_request}
 use Rattle.pool.specs.declared.block.Block.{Block}
 use Rattle.pool.specs.declared.fault.PoolFault.{PoolFault}
 use Rattle.pool.specs.State.{RunsOut, FirstsDiffer}
-use Rattle.pool.specs.Blocks.{block_of, BlockOnLoan, Adds, Drops}
-use Rattle.pool.specs.Take.{Taken, AddsBlock}
+use Rattle.pool.specs.Blocks.{block_of, BlockOnLoan, Adds}
+use Rattle.pool.specs.Take.{Taken}
 use Rattle.pool.proofs.Sound.{only_spot, blocks_stand_lem}
 use Rattle.rack.specs.declared.line.Line.{Line}
-use Rattle.rack.specs.Lines.{line, used, InUse, fresh, unused}
+use Rattle.rack.specs.Lines.{line, used, fresh}
 use Rattle.rack.specs.Holds.{block_at}
 use Rattle.rack.specs.Model.{open_lines}
-use Rattle.rack.proofs.Keeping.{Tidy, tidy_open, tidy_close}
+use Rattle.rack.proofs.Keeping.{Tidy, tidy_open}
 
 -- the blocks of a sound table
 module _ (rs : List (Option Run)) (v : List ℕ) (out : RunsOut rs v) (differ : FirstsDiffer rs) (inside : Inside (length v) v) (apart : Apart v) where

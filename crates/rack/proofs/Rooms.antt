@@ -1,5 +1,5 @@
 -- Where a line's samples lie: within its block, and so within the memory.
-use Rattle.std.proofs.Common.{◌≡◌, ℕ, suc, ◌+◌, ◌-◌, ◌*◌, ◌<◌, ◌≤◌, List, [], ◌∷◌, ◌++◌, length, get_or, take, drop, Option, sym, refl, ap, ◌∙◌, subst, mul-le-mul_right, suc-mul, arith}
+use Rattle.std.proofs.Common.{◌≡◌, ℕ, suc, ◌+◌, ◌-◌, ◌*◌, ◌<◌, ◌≤◌, List, [], ◌∷◌, length, get_or, take, drop, Option, sym, ap, ◌∙◌, subst, mul-le-mul_right, suc-mul, arith}
 use mathlib.Core.Logic.{∥∥₁_elim}
 use native.Mathlib.Bridge.{le_prop}
 use borrow.Rule.Slice.PartMut.{put_mid}
@@ -10,7 +10,6 @@ use Rattle.pages.specs.Table.{Inside, Apart}
 use Rattle.classes.specs.Blocks.{block_bytes}
 use Rattle.runs.specs.declared.run.Run.{Run}
 use Rattle.runs.proofs.Requests.{request_holds}
-use Rattle.pool.specs.declared.block.Block.{Block}
 use Rattle.pool.specs.State.{RunsOut, FirstsDiffer}
 use Rattle.pool.specs.Blocks.{BlockOnLoan}
 use Rattle.rack.specs.declared.line.Line.{Line}

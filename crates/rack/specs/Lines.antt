@@ -1,5 +1,5 @@
 -- What a line's record says, and what a feed and a tap do by it.
-use Rattle.std.specs.Prelude.{◌≡◌, ℕ, ◌+◌, ◌-◌, ◌*◌, ◌<◌, ◌≤◌, cond, List, ◌++◌, length, take, drop, ◌==◌, nat_lt, slice_index_or}
+use Rattle.std.specs.Prelude.{◌≡◌, ℕ, ◌+◌, ◌-◌, ◌*◌, cond, List, ◌++◌, length, take, drop, ◌==◌, nat_lt, slice_index_or}
 use Rattle.rack.specs.declared.line.Line.{Line}
 use Rattle.rack.specs.declared.state.State.{State}
 use Rattle.rack.specs.declared.state.State.TheVariants.{Unused, Playing, Ringing}

@@ -1,11 +1,13 @@
 -- What a rack is seen as: its lines, its pool's table of runs, its supply's table of pages, and the supply.
 use Rattle.std.specs.Prelude.{ℕ, List, Option}
+use Rattle.pages.specs.declared.supply.Supply.{Ghosts as SupplyGhosts}
+use Rattle.samples.specs.declared.kind.Kind.{Ghosts as KindGhosts}
 use Rattle.runs.specs.declared.run.Run.{Run}
 use Rattle.rack.specs.declared.line.Line.{Line}
 use Rattle.rack.specs.declared.rack.Rack.{Rack}
 use Rattle.rack.specs.Model.{Model, model}
 
-module _ {S K X : Type 0} (r : Rack S K X) where
+module _ {S K X : Type 0} {supply : SupplyGhosts S} {kind : KindGhosts K X} (r : Rack S K X supply kind) where
   abbrev pub lines_of : List Line
   lines_of = r.inner.lines
 

@@ -16,9 +16,9 @@ pub fn perform<S: Supply, K: Kind + Drop>(
     memory: &mut [u8],
     call: Call<K::Sample>,
 ) -> Answer<K::Sample>
-    ensures rule_kept { SameRule (rule_of S.Supply (supply_of rack.old)) (rule_of S.Supply (supply_of rack.new)) }
-    ensures step { Step (rule_of S.Supply (supply_of rack.old)) (coding wide silent coded heard) (model_of rack.old memory.old) call result (model_of rack.new memory.new) }
-    ensures law { KeepsLaw (rule_of S.Supply (supply_of rack.old)) (coding wide silent coded heard) (model_of rack.old memory.old) call result (model_of rack.new memory.new) }
+    ensures rule_kept { SameRule (rule_of S.Supply.own (supply_of rack.old)) (rule_of S.Supply.own (supply_of rack.new)) }
+    ensures step { Step (rule_of S.Supply.own (supply_of rack.old)) (coding K.wide K.silent K.coded K.heard) (model_of rack.old memory.old) call result (model_of rack.new memory.new) }
+    ensures law { KeepsLaw (rule_of S.Supply.own (supply_of rack.old)) (coding K.wide K.silent K.coded K.heard) (model_of rack.old memory.old) call result (model_of rack.new memory.new) }
 {
     dispatched(rack, memory, call)
 }
@@ -28,8 +28,8 @@ fn dispatched<S: Supply, K: Kind + Drop>(
     memory: &mut [u8],
     call: Call<K::Sample>,
 ) -> Answer<K::Sample>
-    ensures rule_kept { SameRule (rule_of S.Supply (supply_of rack.old)) (rule_of S.Supply (supply_of rack.new)) }
-    ensures step { Step (rule_of S.Supply (supply_of rack.old)) (coding wide silent coded heard) (model_of rack.old memory.old) call result (model_of rack.new memory.new) }
+    ensures rule_kept { SameRule (rule_of S.Supply.own (supply_of rack.old)) (rule_of S.Supply.own (supply_of rack.new)) }
+    ensures step { Step (rule_of S.Supply.own (supply_of rack.old)) (coding K.wide K.silent K.coded K.heard) (model_of rack.old memory.old) call result (model_of rack.new memory.new) }
 {
     match call {
         Call::Open { line, length } => match rack.open(line, length) {

@@ -19,8 +19,8 @@ pub fn run<S: Supply, K: Kind + Drop>(
     memory: &mut [u8],
     calls: &[Call<K::Sample>],
 ) -> Result<Vec<Answer<K::Sample>>, AllocError>
-    ensures rule_kept { SameRule (rule_of S.Supply (supply_of rack.old)) (rule_of S.Supply (supply_of rack.new)) }
-    ensures lawful { MatchResult result (λ answers. Lawful (rule_of S.Supply (supply_of rack.old)) (coding wide silent coded heard) (model_of rack.old memory.old) calls.now answers.items (model_of rack.new memory.new)) (λ _. model_of rack.new memory.new ≡ model_of rack.old memory.old) }
+    ensures rule_kept { SameRule (rule_of S.Supply.own (supply_of rack.old)) (rule_of S.Supply.own (supply_of rack.new)) }
+    ensures lawful { MatchResult result (λ answers. Lawful (rule_of S.Supply.own (supply_of rack.old)) (coding K.wide K.silent K.coded K.heard) (model_of rack.old memory.old) calls.now answers.items (model_of rack.new memory.new)) (λ _. model_of rack.new memory.new ≡ model_of rack.old memory.old) }
 {
     let mut answers = Vec::with_capacity(heap, calls.len())?;
     for call in calls {

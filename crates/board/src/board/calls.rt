@@ -32,8 +32,8 @@ impl<S: Supply, K: Kind + Drop> Board<S, K> {
     /// Opens a line of so many samples, and answers its ticket.
     pub fn open(&mut self, line: u32, length: u32) -> Result<Opened, RackFault>
         ensures mark_kept { mark_of self.new ≡ mark_of self.old }
-        ensures rule_kept { SameRule (rule_of S.Supply (supply_of self.old)) (rule_of S.Supply (supply_of self.new)) }
-        ensures opens { (bytes : List ℕ) → BoardOpens (rule_of S.Supply (supply_of self.old)) (coding wide silent coded heard) (mark_of self.old) (model_of self.old bytes) (model_of self.new bytes) line length result }
+        ensures rule_kept { SameRule (rule_of S.Supply.own (supply_of self.old)) (rule_of S.Supply.own (supply_of self.new)) }
+        ensures opens { (bytes : List ℕ) → BoardOpens (rule_of S.Supply.own (supply_of self.old)) (coding K.wide K.silent K.coded K.heard) (mark_of self.old) (model_of self.old bytes) (model_of self.new bytes) line length result }
     {
         opened(self.mark, line, self.rack.open(line, length))
     }
@@ -46,9 +46,9 @@ impl<S: Supply, K: Kind + Drop> Board<S, K> {
         sample: K::Sample,
     ) -> Result<(), BoardFault>
         ensures mark_kept { mark_of self.new ≡ mark_of self.old }
-        ensures rule_kept { SameRule (rule_of S.Supply (supply_of self.old)) (rule_of S.Supply (supply_of self.new)) }
-        ensures feeds { BoardFeeds (rule_of S.Supply (supply_of self.old)) (coding wide silent coded heard) (mark_of self.old) (model_of self.old memory.old) (model_of self.new memory.new) ticket.now.mark ticket.now.line sample result }
-        ensures honours { Honours (rule_of S.Supply (supply_of self.old)) (coding wide silent coded heard) (model_of self.old memory.old) ticket.now.line state.Playing result }
+        ensures rule_kept { SameRule (rule_of S.Supply.own (supply_of self.old)) (rule_of S.Supply.own (supply_of self.new)) }
+        ensures feeds { BoardFeeds (rule_of S.Supply.own (supply_of self.old)) (coding K.wide K.silent K.coded K.heard) (mark_of self.old) (model_of self.old memory.old) (model_of self.new memory.new) ticket.now.mark ticket.now.line sample result }
+        ensures honours { Honours (rule_of S.Supply.own (supply_of self.old)) (coding K.wide K.silent K.coded K.heard) (model_of self.old memory.old) ticket.now.line state.Playing result }
     {
         if ticket.mark != self.mark {
             return Err(BoardFault::OtherMark(ticket.line));
@@ -59,9 +59,9 @@ impl<S: Supply, K: Kind + Drop> Board<S, K> {
     /// Feeds the ticket's line silence.
     pub fn tick(&mut self, memory: &mut [u8], ticket: &Ringing) -> Result<(), BoardFault>
         ensures mark_kept { mark_of self.new ≡ mark_of self.old }
-        ensures rule_kept { SameRule (rule_of S.Supply (supply_of self.old)) (rule_of S.Supply (supply_of self.new)) }
-        ensures ticks { BoardTicks (rule_of S.Supply (supply_of self.old)) (coding wide silent coded heard) (mark_of self.old) (model_of self.old memory.old) (model_of self.new memory.new) ticket.now.mark ticket.now.line result }
-        ensures honours { Honours (rule_of S.Supply (supply_of self.old)) (coding wide silent coded heard) (model_of self.old memory.old) ticket.now.line state.Ringing result }
+        ensures rule_kept { SameRule (rule_of S.Supply.own (supply_of self.old)) (rule_of S.Supply.own (supply_of self.new)) }
+        ensures ticks { BoardTicks (rule_of S.Supply.own (supply_of self.old)) (coding K.wide K.silent K.coded K.heard) (mark_of self.old) (model_of self.old memory.old) (model_of self.new memory.new) ticket.now.mark ticket.now.line result }
+        ensures honours { Honours (rule_of S.Supply.own (supply_of self.old)) (coding K.wide K.silent K.coded K.heard) (model_of self.old memory.old) ticket.now.line state.Ringing result }
     {
         if ticket.mark != self.mark {
             return Err(BoardFault::OtherMark(ticket.line));
@@ -71,8 +71,8 @@ impl<S: Supply, K: Kind + Drop> Board<S, K> {
 
     /// The sample that the ticket's line was fed `d` feeds before the newest, or silence where fewer were fed.
     pub fn tap<T: Ticket>(&self, memory: &[u8], ticket: &T, d: u32) -> Result<K::Sample, BoardFault>
-        ensures taps { BoardTaps (rule_of S.Supply (supply_of self.now)) (coding wide silent coded heard) (mark_of self.now) (model_of self.now memory.now) (T.Ticket.marked ticket.now) (T.Ticket.lined ticket.now) d result }
-        ensures honours { Honours (rule_of S.Supply (supply_of self.now)) (coding wide silent coded heard) (model_of self.now memory.now) (T.Ticket.lined ticket.now) T.Ticket.stated result }
+        ensures taps { BoardTaps (rule_of S.Supply.own (supply_of self.now)) (coding K.wide K.silent K.coded K.heard) (mark_of self.now) (model_of self.now memory.now) (T.Ticket.marked ticket.now) (T.Ticket.lined ticket.now) d result }
+        ensures honours { Honours (rule_of S.Supply.own (supply_of self.now)) (coding K.wide K.silent K.coded K.heard) (model_of self.now memory.now) (T.Ticket.lined ticket.now) T.Ticket.stated result }
     {
         if ticket.mark() != self.mark {
             return Err(BoardFault::OtherMark(ticket.line()));
@@ -83,9 +83,9 @@ impl<S: Supply, K: Kind + Drop> Board<S, K> {
     /// Leaves the ticket's line to ring: a ringing ticket for the playing one.
     pub fn ring(&mut self, ticket: Playing) -> Result<Ringing, Declined<Playing>>
         ensures mark_kept { mark_of self.new ≡ mark_of self.old }
-        ensures rule_kept { SameRule (rule_of S.Supply (supply_of self.old)) (rule_of S.Supply (supply_of self.new)) }
-        ensures rings { (bytes : List ℕ) → BoardRings (rule_of S.Supply (supply_of self.old)) (coding wide silent coded heard) (mark_of self.old) (model_of self.old bytes) (model_of self.new bytes) ticket result }
-        ensures honours { (bytes : List ℕ) → Honours (rule_of S.Supply (supply_of self.old)) (coding wide silent coded heard) (model_of self.old bytes) ticket.line state.Playing (verdict result) }
+        ensures rule_kept { SameRule (rule_of S.Supply.own (supply_of self.old)) (rule_of S.Supply.own (supply_of self.new)) }
+        ensures rings { (bytes : List ℕ) → BoardRings (rule_of S.Supply.own (supply_of self.old)) (coding K.wide K.silent K.coded K.heard) (mark_of self.old) (model_of self.old bytes) (model_of self.new bytes) ticket result }
+        ensures honours { (bytes : List ℕ) → Honours (rule_of S.Supply.own (supply_of self.old)) (coding K.wide K.silent K.coded K.heard) (model_of self.old bytes) ticket.line state.Playing (verdict result) }
     {
         let line = ticket.line;
         if ticket.mark != self.mark {
@@ -97,9 +97,9 @@ impl<S: Supply, K: Kind + Drop> Board<S, K> {
     /// Closes the ticket's line, and spends the ticket.
     pub fn close(&mut self, ticket: Ringing) -> Result<(), Declined<Ringing>>
         ensures mark_kept { mark_of self.new ≡ mark_of self.old }
-        ensures rule_kept { SameRule (rule_of S.Supply (supply_of self.old)) (rule_of S.Supply (supply_of self.new)) }
-        ensures closes { (bytes : List ℕ) → BoardCloses (rule_of S.Supply (supply_of self.old)) (coding wide silent coded heard) (mark_of self.old) (model_of self.old bytes) (model_of self.new bytes) ticket result }
-        ensures honours { (bytes : List ℕ) → Honours (rule_of S.Supply (supply_of self.old)) (coding wide silent coded heard) (model_of self.old bytes) ticket.line state.Ringing (verdict result) }
+        ensures rule_kept { SameRule (rule_of S.Supply.own (supply_of self.old)) (rule_of S.Supply.own (supply_of self.new)) }
+        ensures closes { (bytes : List ℕ) → BoardCloses (rule_of S.Supply.own (supply_of self.old)) (coding K.wide K.silent K.coded K.heard) (mark_of self.old) (model_of self.old bytes) (model_of self.new bytes) ticket result }
+        ensures honours { (bytes : List ℕ) → Honours (rule_of S.Supply.own (supply_of self.old)) (coding K.wide K.silent K.coded K.heard) (model_of self.old bytes) ticket.line state.Ringing (verdict result) }
     {
         let line = ticket.line;
         if ticket.mark != self.mark {

@@ -60,8 +60,8 @@ impl<S: Supply> Inner<S> {
     // Takes a block for a line, and makes its record.
     pub(crate) fn open(&mut self, line: u32, length: u32, bytes: u32) -> Result<u32, RackFault>
         requires { line < line_count }
-        ensures rule_kept { SameRule (rule_of S.Supply (supply_of self.old.pool)) (rule_of S.Supply (supply_of self.new.pool)) }
-        ensures opened { OpenedBy (rule_of S.Supply (supply_of self.old.pool)) bytes line length self.old.lines self.new.lines (run_table self.old.pool) (run_table self.new.pool) (page_table self.old.pool) (page_table self.new.pool) result }
+        ensures rule_kept { SameRule (rule_of S.Supply.own (supply_of self.old.pool)) (rule_of S.Supply.own (supply_of self.new.pool)) }
+        ensures opened { OpenedBy (rule_of S.Supply.own (supply_of self.old.pool)) bytes line length self.old.lines self.new.lines (run_table self.old.pool) (run_table self.new.pool) (page_table self.old.pool) (page_table self.new.pool) result }
     {
         match self.pool.take(bytes) {
             Err(fault) => Err(RackFault::Pool(fault, line)),
@@ -95,7 +95,7 @@ impl<S: Supply> Inner<S> {
     pub(crate) fn close(&mut self, n: usize)
         requires within { n < line_count }
         requires lent { ∥ LoanAt (run_table self.old.pool) (line_of self.old.lines n).offset ∥₁ }
-        ensures rule_kept { SameRule (rule_of S.Supply (supply_of self.old.pool)) (rule_of S.Supply (supply_of self.new.pool)) }
+        ensures rule_kept { SameRule (rule_of S.Supply.own (supply_of self.old.pool)) (rule_of S.Supply.own (supply_of self.new.pool)) }
         ensures lines { self.new.lines ≡ slice_set self.old.lines n unused }
         ensures released { Released (S.Supply.fits (supply_of self.old.pool)) (run_table self.old.pool) (run_table self.new.pool) (page_table self.old.pool) (page_table self.new.pool) (line_of self.old.lines n).offset }
         ensures drops { Drops (run_table self.old.pool) (run_table self.new.pool) (line_of self.old.lines n).offset }

@@ -35,8 +35,8 @@ impl<S: Supply, K: Kind + Drop> Rack<S, K> {
 
     /// Opens a line of so many samples, and answers where its block begins.
     pub fn open(&mut self, line: u32, length: u32) -> Result<u32, RackFault>
-        ensures rule_kept { SameRule (rule_of S.Supply (supply_of self.old)) (rule_of S.Supply (supply_of self.new)) }
-        ensures opens { (bytes : List ℕ) → Opens (rule_of S.Supply (supply_of self.old)) wide (model_of self.old bytes) line length result (model_of self.new bytes) }
+        ensures rule_kept { SameRule (rule_of S.Supply.own (supply_of self.old)) (rule_of S.Supply.own (supply_of self.new)) }
+        ensures opens { (bytes : List ℕ) → Opens (rule_of S.Supply.own (supply_of self.old)) K.wide (model_of self.old bytes) line length result (model_of self.new bytes) }
     {
         if line as usize >= LINES {
             return Err(RackFault::NoLine(line));
@@ -58,7 +58,7 @@ impl<S: Supply, K: Kind + Drop> Rack<S, K> {
     /// Feeds a playing line one sample.
     pub fn feed(&mut self, memory: &mut [u8], line: u32, sample: K::Sample) -> Result<(), RackFault>
         ensures pool_kept { self.new.inner.pool ≡ self.old.inner.pool }
-        ensures feeds { Feeds coded wide (model_of self.old memory.old) line sample result (model_of self.new memory.new) }
+        ensures feeds { Feeds K.coded K.wide (model_of self.old memory.old) line sample result (model_of self.new memory.new) }
     {
         match self.inner.find(Verb::Feed, line) {
             Err(fault) => Err(fault),
@@ -75,7 +75,7 @@ impl<S: Supply, K: Kind + Drop> Rack<S, K> {
     /// Feeds a ringing line silence.
     pub fn tick(&mut self, memory: &mut [u8], line: u32) -> Result<(), RackFault>
         ensures pool_kept { self.new.inner.pool ≡ self.old.inner.pool }
-        ensures ticks { Ticks silent coded wide (model_of self.old memory.old) line result (model_of self.new memory.new) }
+        ensures ticks { Ticks K.silent K.coded K.wide (model_of self.old memory.old) line result (model_of self.new memory.new) }
     {
         match self.inner.find(Verb::Tick, line) {
             Err(fault) => Err(fault),
@@ -92,7 +92,7 @@ impl<S: Supply, K: Kind + Drop> Rack<S, K> {
 
     /// The sample that was fed `d` feeds before the newest, or silence where fewer were fed.
     pub fn tap(&self, memory: &[u8], line: u32, d: u32) -> Result<K::Sample, RackFault>
-        ensures { result ≡ tap_answer heard silent wide (model_of self.now memory.now) line d }
+        ensures { result ≡ tap_answer K.heard K.silent K.wide (model_of self.now memory.now) line d }
     {
         match self.inner.find(Verb::Tap, line) {
             Err(fault) => Err(fault),
@@ -124,8 +124,8 @@ impl<S: Supply, K: Kind + Drop> Rack<S, K> {
 
     /// Closes a ringing line: its block goes back to the pool.
     pub fn close(&mut self, line: u32) -> Result<(), RackFault>
-        ensures rule_kept { SameRule (rule_of S.Supply (supply_of self.old)) (rule_of S.Supply (supply_of self.new)) }
-        ensures closes { (bytes : List ℕ) → Closes (rule_of S.Supply (supply_of self.old)) (model_of self.old bytes) line result (model_of self.new bytes) }
+        ensures rule_kept { SameRule (rule_of S.Supply.own (supply_of self.old)) (rule_of S.Supply.own (supply_of self.new)) }
+        ensures closes { (bytes : List ℕ) → Closes (rule_of S.Supply.own (supply_of self.old)) (model_of self.old bytes) line result (model_of self.new bytes) }
     {
         match self.inner.find(Verb::Close, line) {
             Err(fault) => Err(fault),
@@ -181,7 +181,7 @@ impl<S: Supply, K: Kind + Drop> Rack<S, K> {
         requires whole { length memory.old ≡ length (pages_of self.old) * page_bytes }
         ensures lines { lines_of self.new ≡ slice_set (lines_of self.old) n (fed line) }
         ensures pool_kept { self.new.inner.pool ≡ self.old.inner.pool }
-        ensures memory { memory.new ≡ patched memory.old (place wide line line.next) (coded sample) }
+        ensures memory { memory.new ≡ patched memory.old (place K.wide line line.next) (K.coded sample) }
     {
         self.witness.known();
         let width = self.kind.width();
@@ -196,7 +196,7 @@ impl<S: Supply, K: Kind + Drop> Rack<S, K> {
         requires used { InUse line }
         requires near { d < line.length }
         requires whole { length memory.now ≡ length (pages_of self.now) * page_bytes }
-        ensures { result ≡ tapped heard silent wide memory.now line d }
+        ensures { result ≡ tapped K.heard K.silent K.wide memory.now line d }
     {
         if d >= line.kept {
             return self.kind.silence();

@@ -1,4 +1,4 @@
-use Rattle.std.proofs.Common.{◌≡◌, length, sym, ap, ◌∙◌}
+use Rattle.std.proofs.Common.{length, sym, ap, ◌∙◌}
 use Rattle.rack.specs.Faults.{places}
 use Rattle.rack.proofs.Told.{one_and_line, two_and_line}
 use Rattle.rack.proofs.fault.RackFault.places.Goals as goal

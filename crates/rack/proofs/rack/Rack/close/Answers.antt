@@ -1,11 +1,11 @@
-use Rattle.std.proofs.Common.{◌≡◌, ℕ, ◌<◌, List, length, get_or, sym, refl, subst, arith, rules}
+use Rattle.std.proofs.Common.{◌<◌, List, length, get_or, sym, refl, subst, arith, rules}
 use mathlib.Core.Logic.{∥∥₁_map}
 use Rattle.pool.specs.declared.block.Block.{Block}
 use Rattle.pool.specs.Blocks.{BlockOnLoan}
 use Rattle.rack.specs.declared.line.Line.{Line}
 use Rattle.rack.specs.Lines.{line, InUse}
 use Rattle.rack.specs.Holds.{block_at}
-use Rattle.rack.proofs.Keeping.{Tidy, parts, tidy_close}
+use Rattle.rack.proofs.Keeping.{Tidy, tidy_close}
 use Rattle.rack.proofs.Parts.{tidy_of}
 use Rattle.rack.proofs.rack.Rack.close.Goals as goal
 
@@ -28,4 +28,5 @@ invariant_of-self g c =
     let h : n < length ls = omega (arith, s.inner.many, c.in-Ok.ensures.found.1) in
     let u : InUse (line ls n) = search rules in
     let after = tidy_close P Q w ls n h u (λ b x ne. ∥∥₁_map x (λ y. c.close.ensures.drops.kept b y ne)) (tidy_of s) in
-    (s.tied, parts (subst (λ (xs : List Line). Tidy Q w xs) (sym c.close.ensures.lines) after))
+    let t = subst (λ (xs : List Line). Tidy Q w xs) (sym c.close.ensures.lines) after in
+    record { tied = s.tied; placed = t.placed; short = t.short; lent = t.lent; differ = t.differ }

@@ -1,12 +1,11 @@
-use Rattle.std.proofs.Common.{◌≡◌, ℕ, ◌*◌, ◌<◌, ◌≤◌, List, length, get_or, Ok, Err, Option, Result, sym, refl, ◌∙◌, subst, arith, rules}
+use Rattle.std.proofs.Common.{◌≡◌, ℕ, ◌*◌, ◌<◌, ◌≤◌, List, length, get_or, Option, sym, ◌∙◌, subst, arith, rules}
 use Rattle.runs.specs.declared.run.Run.{Run}
 use Rattle.pool.specs.declared.block.Block.{Block}
-use Rattle.pool.specs.declared.fault.PoolFault.{PoolFault}
 use Rattle.pool.specs.Blocks.{BlockOnLoan}
 use Rattle.pool.specs.Take.{Taken, AddsBlock}
 use Rattle.rack.specs.declared.line.Line.{Line}
 use Rattle.rack.specs.Lines.{line, used}
-use Rattle.rack.proofs.Keeping.{Tidy, parts}
+use Rattle.rack.proofs.Keeping.{Tidy}
 use Rattle.rack.proofs.Loans.{adds_on, adds_plain, tidy_opened}
 use Rattle.rack.proofs.Rooms.{width_is}
 use Rattle.rack.proofs.Parts.{tidy_of}
@@ -33,4 +32,5 @@ invariant_of-self g c =
     let after = tidy_opened f w ls rs ts s.inner.pool.pages.witness.view p.pages.witness.view n h (tidy_of s) (g.S.Supply.largest d) (g.S.Supply.fits d) (g.S.Supply.chooses d) c.args.length o.answer taken
     (λ b is. adds_plain (BlockOnLoan rs) (BlockOnLoan ts) b (adds_on rs ts p.pages.witness.view p.out p.differ p.pages.inside p.pages.apart b (subst (AddsBlock rs ts) is o.adds)))
     free some (subst (λ (x : ℕ). c.args.length * x ≤ 130560) e few) in
-    (s.tied, parts (subst (λ (xs : List Line). Tidy (f ts) w xs) (sym o.lines) after))
+    let t = subst (λ (xs : List Line). Tidy (f ts) w xs) (sym o.lines) after in
+    record { tied = s.tied; placed = t.placed; short = t.short; lent = t.lent; differ = t.differ }

@@ -1,17 +1,19 @@
 use Rattle.std.proofs.Common.{◌≡◌, ℕ, ◌+◌, ◌*◌, ◌<◌, ◌≤◌, List, length, get_or, set, Option, sym, ap, ◌∙◌, subst, arith}
+use Rattle.pages.specs.declared.supply.Supply.{Ghosts as SupplyGhosts}
+use Rattle.samples.specs.declared.kind.Kind.{Ghosts as KindGhosts}
 use Rattle.runs.specs.declared.run.Run.{Run}
 use Rattle.pool.specs.declared.block.Block.{Block}
 use Rattle.pool.specs.Blocks.{BlockOnLoan}
 use Rattle.rack.specs.declared.line.Line.{Line}
 use Rattle.rack.specs.declared.rack.Rack.{Rack}
 use Rattle.rack.specs.Lines.{line, fed, patched, InUse}
-use Rattle.rack.proofs.Keeping.{parts, tidy_fed, tidy_to}
+use Rattle.rack.proofs.Keeping.{tidy_fed, tidy_to}
 use Rattle.rack.proofs.Parts.{tidy_of, housed}
 use Rattle.rack.proofs.Rooms.{width_is, position_within, next_within, part_written}
 use Rattle.rack.proofs.rack.Rack.write.Goals as goal
 
 -- the next position of a line in use lies within the memory
-within : {S K X : Type 0} (s : Rack S K X) (w : ℕ) (l : Line) (n : ℕ) → get_or s.witness.view 0 0 ≡ w → 0 < w → l ≡ line s.inner.lines n → InUse l → l.offset + l.next * w + w ≤ length s.inner.pool.pages.witness.view * 512
+within : {S K X : Type 0} {supply : SupplyGhosts S} {kind : KindGhosts K X} (s : Rack S K X supply kind) (w : ℕ) (l : Line) (n : ℕ) → get_or s.witness.view 0 0 ≡ w → 0 < w → l ≡ line s.inner.lines n → InUse l → l.offset + l.next * w + w ≤ length s.inner.pool.pages.witness.view * 512
 within s w l n e wide same u =
     let h = housed s w e wide in
     position_within _ _ s.inner.lines w h l n same u l.next (next_within _ _ s.inner.lines w h l n same u)
@@ -33,7 +35,8 @@ invariant_of-self g c =
     let f : List (Option Run) → Block → Type 0 = λ rs b. ∥ BlockOnLoan rs b ∥₁ in
     let h : n < length ls = omega (arith, s.inner.many, c.requires.within) in
     let fed-here = tidy_fed (f rs) w ls n h (subst InUse c.requires.found c.requires.used) (tidy_of s) in
-    (s.tied, parts (tidy_to f w rs c.advance.new.self.pool.runs.table _ c.advance.new.self.lines (ap (λ p. p.runs.table) c.advance.ensures.pool) c.advance.ensures.lines fed-here))
+    let t = tidy_to f w rs c.advance.new.self.pool.runs.table _ c.advance.new.self.lines (ap (λ p. p.runs.table) c.advance.ensures.pool) c.advance.ensures.lines fed-here in
+    record { tied = s.tied; placed = t.placed; short = t.short; lent = t.lent; differ = t.differ }
 
 pub returns : goal.returns
 returns g c =
