@@ -16,7 +16,6 @@ pub record Tidy (P : Block → Type 0) (w : ℕ) (ls : List Line) : Type 0 where
   pub lent : Lent P w ls
   pub differ : OffsetsDiffer ls
 
--- the same, as a ghost field's need has it
 -- the line k after a write to the line n
 pub line_cases : (ls : List Line) (n : ℕ) (l : Line) (k : ℕ) → n < length ls → ((k ≡ n) × (line (set ls n l) k ≡ l)) ⊎ ((k ≡ n → ⊥) × (line (set ls n l) k ≡ line ls k))
 line_cases ls n l k h =

@@ -1,5 +1,5 @@
 -- Every block on loan is that of a line in use, and every run has a block on loan.
-use Rattle.std.proofs.Common.{◌≡◌, ℕ, zero, suc, ◌+◌, ◌*◌, ◌<◌, ◌≤◌, Bool, true, false, cond, not, ◌⊎◌, List, [], ◌∷◌, length, get_or, set, replicate, Some, None, Option, sym, refl, ap, ◌∙◌, subst, inl, inr, ⊎_elim, arith}
+use Rattle.std.proofs.Common.{◌≡◌, ℕ, suc, ◌<◌, Bool, true, false, cond, not, ◌⊎◌, List, [], ◌∷◌, length, get_or, set, replicate, None, sym, refl, ap, ◌∙◌, ⊎_elim, arith}
 use Rattle.std.proofs.lemmas.List.{get_or-set_same, get_or-set_other}
 use Rattle.std.proofs.lemmas.List.Sums.{sum_by-cons}
 use Rattle.runs.specs.declared.run.Run.{Run}
@@ -8,7 +8,7 @@ use Rattle.runs.specs.Loans.{loans}
 use Rattle.runs.specs.Shapes.{slots_in}
 use Rattle.runs.specs.Table.{free, is_on_loan}
 use Rattle.pool.specs.declared.block.Block.{Block}
-use Rattle.pool.specs.Blocks.{BlockOnLoan, Adds, Drops}
+use Rattle.pool.specs.Blocks.{BlockOnLoan}
 use Rattle.pool.proofs.States.{none_some, all_none}
 use Rattle.rack.specs.declared.line.Line.{Line}
 use Rattle.rack.specs.Lines.{unused, line, used, InUse, fresh}

@@ -1,5 +1,5 @@
 -- A step by a rule is a step by one that says the same.
-use Rattle.std.proofs.Common.{◌≡◌, ℕ, List, [], ◌∷◌, Ok, Err, Option, Result, ◌∙◌}
+use Rattle.std.proofs.Common.{ℕ, List, [], ◌∷◌, Ok, Err, Option, Result, ◌∙◌}
 use Rattle.runs.specs.declared.run.Run.{Run}
 use Rattle.pool.specs.Release.{Released}
 use Rattle.pool.proofs.SameRule.{taken_same}

@@ -1,20 +1,17 @@
 -- Every run from a new rack keeps the law.
-use Rattle.std.proofs.Common.{◌≡◌, ℕ, zero, suc, ◌+◌, ◌*◌, ◌<◌, ◌≤◌, min, true, eqb, ◌⊎◌, List, [], ◌∷◌, ◌++◌, length, get_or, set, replicate, is_ok, Some, None, Ok, Err, Option, Result, sym, refl, ap, ◌∙◌, subst, inl, inr, ⊎_elim, arith}
+use Rattle.std.proofs.Common.{◌≡◌, ℕ, ◌+◌, ◌*◌, ◌<◌, ◌≤◌, min, true, eqb, ◌⊎◌, List, [], ◌∷◌, ◌++◌, length, get_or, set, is_ok, Ok, Err, Option, Result, sym, refl, ap, ◌∙◌, subst, inl, inr, ⊎_elim, arith}
 use Rattle.std.proofs.lemmas.List.{get_or-set_same, get_or-set_other}
 use Rattle.std.proofs.lemmas.Bool.{false≢true, cases_eq, eq-eqb, ne_eqb, cond-true, cond-false}
 use Rattle.classes.specs.Blocks.{block_bytes}
 use Rattle.pages.specs.Table.{Out}
 use Rattle.runs.specs.declared.run.Run.{Run}
 use Rattle.runs.specs.declared.table.Spot.{Spot}
-use Rattle.runs.specs.Shapes.{ShapeOf, block_size}
+use Rattle.runs.specs.Shapes.{block_size}
 use Rattle.runs.proofs.Requests.{size_of_request, shape_of_size}
 use Rattle.pool.specs.declared.block.Block.{Block}
 use Rattle.pool.specs.declared.fault.PoolFault.{PoolFault}
 use Rattle.pool.specs.Blocks.{start_of, block_of, OnLoan, BlockOnLoan, Drops}
-use Rattle.pool.specs.State.{Entry as Held}
 use Rattle.pool.specs.Take.{Taken}
-use Rattle.pool.specs.Release.{Released}
-use Rattle.pool.proofs.States.{some_same}
 use Rattle.pool.proofs.Sound.{blocks_stand_lem}
 use Rattle.pool.proofs.Loaned.{taken_adds, restored_drops}
 use Rattle.pool.proofs.Reuse.{taken_reuses}
@@ -28,14 +25,14 @@ use Rattle.rack.specs.declared.state.Verb.TheVariants as verb
 use Rattle.rack.specs.Lines as lines
 use Rattle.rack.specs.Lines.{unused, line, InUse, fresh, fed, rung, place, patched, tapped}
 use Rattle.rack.specs.Holds.{block_at}
-use Rattle.rack.specs.Model.{Model, model, fresh_model, Rule, Coding, Opens, OpensAs, open_checks, open_answer, open_lines, Feeds, Ticks, Rings, Closes, Closed, Written, tap_answer, kept_answer}
-use Rattle.rack.proofs.Keeping.{Tidy, all_unused, tidy_new, tidy_fed, tidy_rung, tidy_close, tidy_to, next_within}
+use Rattle.rack.specs.Model.{Model, fresh_model, Rule, Coding, Opens, OpensAs, open_checks, open_answer, open_lines, Feeds, Ticks, Rings, Closes, Written, tap_answer, kept_answer}
+use Rattle.rack.proofs.Keeping.{Tidy, all_unused, tidy_new, tidy_fed, tidy_rung, tidy_close, tidy_to}
 use Rattle.rack.proofs.Loans.{AddsOn, adds_on, tidy_opened}
 use Rattle.rack.proofs.Rooms.{row, line_room, samples_fit}
 use Rattle.trace.specs.declared.call.Call.{Call}
 use Rattle.trace.specs.declared.call.Call.TheVariants.{Open, Feed, Tick, Tap, Ring, Close}
 use Rattle.trace.specs.declared.call.Answer.{Answer}
-use Rattle.trace.specs.declared.call.Answer.TheVariants.{Opened, Done, Heard, Refused}
+use Rattle.trace.specs.declared.call.Answer.TheVariants.{Opened, Done, Heard}
 use Rattle.trace.specs.Steps.{opened, acknowledged, heard, Step, Deed, Ran}
 use Rattle.trace.specs.Book.{Phase, playing, ringing, Entry, idle, active, Book, empty, write, more, rang, note, noted, book}
 use Rattle.trace.specs.Law.{state_of, book_state, Active, InBlock, InRun, Tells, Keeps, Law, KeepsLaw}

@@ -1,5 +1,5 @@
 -- Whole lists of calls, each beside its answer.
-use Rattle.std.proofs.Common.{◌≡◌, ℕ, ◌+◌, ◌<◌, ◌≤◌, List, [], ◌∷◌, ◌++◌, length, get_or, take, sym, refl, ap, ◌∙◌, subst, arith}
+use Rattle.std.proofs.Common.{◌≡◌, ℕ, ◌+◌, ◌<◌, ◌≤◌, List, [], ◌∷◌, ◌++◌, length, get_or, take, sym, refl, ap, subst, arith}
 use Rattle.std.proofs.lemmas.List.{length-take, take_more, take_all}
 use Rattle.rack.specs.Model.{Model, fresh_model, Rule, Coding}
 use Rattle.trace.specs.declared.call.Call.{Call}

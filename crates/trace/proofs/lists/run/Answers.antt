@@ -1,4 +1,4 @@
-use Rattle.std.proofs.Common.{◌≡◌, ℕ, ◌<◌, ◌≤◌, length, vec_items, sym, ◌∙◌, subst, arith, rules}
+use Rattle.std.proofs.Common.{vec_items, subst, arith, rules}
 use Rattle.rack.specs.Model.{coding, rule_of}
 use Rattle.rack.specs.Views.{supply_of, model_of}
 use Rattle.trace.specs.declared.call.Call.{Call}
