@@ -1,5 +1,5 @@
 -- A ticket of the board's own mark, and one of another.
-use Rattle.std.proofs.Common.{◌≡◌, ℕ, Bool, true, false, eqb, Err, Result, sym, subst}
+use Rattle.std.proofs.Common.{◌≡◌, ℕ, Bool, Err, Result, sym, subst}
 use Rattle.std.proofs.lemmas.Bool.{eq-eqb, ne_eqb}
 use Rattle.rack.specs.declared.fault.RackFault.{RackFault}
 use Rattle.rack.specs.Model.{Model}

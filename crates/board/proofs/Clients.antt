@@ -1,5 +1,5 @@
 -- For clients: what a board does with a valid ticket, and which tickets are valid after it.
-use Rattle.std.proofs.Common.{◌≡◌, ℕ, ◌*◌, ◌<◌, List, length, set, Ok, Err, Result, sym, refl, ap, ◌∙◌, subst, arith}
+use Rattle.std.proofs.Common.{◌≡◌, ℕ, ◌<◌, List, length, set, Ok, Err, Result, sym, refl, ap, ◌∙◌, subst, arith}
 use Rattle.std.proofs.lemmas.List.{get_or-set_same, get_or-set_other}
 use Rattle.pool.specs.declared.block.Block.{Block}
 use Rattle.pool.specs.declared.fault.PoolFault.{PoolFault}
@@ -8,10 +8,9 @@ use Rattle.rack.specs.declared.line.Line.{Line}
 use Rattle.rack.specs.declared.state.State.{State}
 use Rattle.rack.specs.declared.state.State.TheVariants as state
 use Rattle.rack.specs.declared.state.Verb.TheVariants as verb
-use Rattle.rack.specs.Lines.{unused, line, used, fresh, fed, rung}
-use Rattle.rack.specs.Model.{Model, Rule, Coding, turns, done, Opens, OpensAs, open_checks, open_answer, open_lines, Feeds, Ticks, Rings, Closes}
+use Rattle.rack.specs.Lines.{unused, line, used, fresh}
+use Rattle.rack.specs.Model.{Model, Rule, Coding, done, Opens, OpensAs, open_checks, open_answer, open_lines, Feeds, Ticks, Rings, Closes}
 use Rattle.trace.proofs.Verdicts.{not_ok, ok_same, checks_ok}
-use Rattle.board.specs.declared.fault.BoardFault.{BoardFault}
 use Rattle.board.specs.declared.ticket.Playing.{Playing}
 use Rattle.board.specs.declared.ticket.Ringing.{Ringing}
 use Rattle.board.specs.declared.ticket.Declined.{Declined}

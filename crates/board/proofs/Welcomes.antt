@@ -1,5 +1,5 @@
 -- A ticket that is out is welcome: its line is in its state.
-use Rattle.std.proofs.Common.{◌≡◌, ℕ, ◌*◌, ◌<◌, ◌≤◌, Bool, true, false, cond, eqb, ltb, List, length, get_or, Ok, Err, Result, sym, refl, ap, ◌∙◌, subst, ⊎_elim, arith}
+use Rattle.std.proofs.Common.{◌≡◌, ℕ, ◌*◌, ◌<◌, ◌≤◌, Bool, true, false, cond, eqb, ltb, List, length, Ok, Err, Result, sym, ap, ◌∙◌, subst, ⊎_elim, arith}
 use Rattle.std.proofs.lemmas.List.{get_or_past}
 use Rattle.std.proofs.lemmas.Bool.{cases_lt, lt-ltb, cond-true}
 use Rattle.pages.specs.declared.supply.Supply.{Ghosts}
@@ -7,9 +7,9 @@ use Rattle.rack.specs.declared.fault.RackFault.{RackFault}
 use Rattle.rack.specs.declared.fault.RackFault.TheVariants.{WrongMemory}
 use Rattle.rack.specs.declared.line.Line.{Line}
 use Rattle.rack.specs.declared.state.State.{State}
-use Rattle.rack.specs.declared.state.State.TheVariants.{Unused, Playing, Ringing}
+use Rattle.rack.specs.declared.state.State.TheVariants.{Unused}
 use Rattle.rack.specs.declared.state.Verb.{Verb}
-use Rattle.rack.specs.Lines.{unused, line}
+use Rattle.rack.specs.Lines.{unused}
 use Rattle.rack.specs.Turns.{turned}
 use Rattle.rack.specs.Model.{Model, fresh_model, Rule, rule_of, Coding, coding, turns, allowed, whole}
 use Rattle.trace.specs.declared.call.Call.{Call}

@@ -1,4 +1,4 @@
-use Rattle.std.proofs.Common.{ℕ, List, refl, rules}
+use Rattle.std.proofs.Common.{ℕ, List, refl}
 use Rattle.board.specs.Views.{supply_of, model_of}
 use Rattle.board.proofs.Welcomes.{promised}
 use Rattle.board.proofs.Calls.{opens}
