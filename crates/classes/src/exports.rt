@@ -1,4 +1,4 @@
-//! The four calls of the firmware's C part, on plain numbers; include/classes.h declares them.
+//! The four questions of the firmware's C part, on plain numbers; the crate `classes_c` exports them.
 ghost use Rattle.std.specs.Prelude.{◌≡◌};
 ghost use Rattle.classes.specs.Exports.{ClassAnswer, size_answer, pages_answer, slot_answer};
 
@@ -8,8 +8,7 @@ use crate::class::Class;
 const OUTSIDE: u32 = 65535;
 
 /// The class of a length.
-#[unsafe(no_mangle)]
-pub extern "C" fn cogyrundal_class_of_length(length: u32) -> u32
+pub fn cogyrundal_class_of_length(length: u32) -> u32
     ensures { ClassAnswer length result }
 {
     match Class::of_length(length) {
@@ -19,8 +18,7 @@ pub extern "C" fn cogyrundal_class_of_length(length: u32) -> u32
 }
 
 /// The size of a class, in bytes.
-#[unsafe(no_mangle)]
-pub extern "C" fn cogyrundal_size_of_class(class: u32) -> u32
+pub fn cogyrundal_size_of_class(class: u32) -> u32
     ensures { result ≡ size_answer class }
 {
     match Class::new(class) {
@@ -30,8 +28,7 @@ pub extern "C" fn cogyrundal_size_of_class(class: u32) -> u32
 }
 
 /// The pages of a run of a class.
-#[unsafe(no_mangle)]
-pub extern "C" fn cogyrundal_pages_of_class(class: u32) -> u32
+pub fn cogyrundal_pages_of_class(class: u32) -> u32
     ensures { result ≡ pages_answer class }
 {
     match Class::new(class) {
@@ -41,8 +38,7 @@ pub extern "C" fn cogyrundal_pages_of_class(class: u32) -> u32
 }
 
 /// The slot that a place in a run of a class lies in.
-#[unsafe(no_mangle)]
-pub extern "C" fn cogyrundal_slot_of_place(class: u32, place: u32) -> u32
+pub fn cogyrundal_slot_of_place(class: u32, place: u32) -> u32
     ensures { result ≡ slot_answer class place }
 {
     match Class::new(class) {
