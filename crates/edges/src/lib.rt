@@ -4,7 +4,7 @@
 ghost use Rattle.edges.specs.Edges.{Edges};
 
 #[cfg(test)]
-mod classes;
+mod size_classes;
 
 /// The edges that are proved of the definitions.
 pub fn edges_hold()
