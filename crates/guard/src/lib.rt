@@ -51,7 +51,7 @@ impl<S: Supply> Guard<S> {
         below.into_supply()
     }
 
-    // How many pages more it asks below. No ghost field can cite the largest of any supply, so it is asked here.
+    // How many pages more it asks below. No field keeps the largest of the supply below, so it is asked here.
     fn extra(&self) -> u32
         ensures is { result ≡ extra_of (S.Supply.largest self.now.below.supply) self.now.more }
         ensures one { result ≤ 1 }

@@ -83,9 +83,9 @@ impl Supply for FirstFit {
 
     ghost apart = { λ s. view_apart s.span s.counts s.inside s.apart };
 
-    ghost fits_bounds = { first_of (Prim.search rules, Prim.grind (arith, Self.row.coded.inj)) };
+    ghost fits_bounds = { Prim.search rules };
 
-    ghost fits_nothing = { first_of (Prim.search rules, Prim.grind (arith, Self.row.coded.inj)) };
+    ghost fits_nothing = { Prim.search rules };
 
     fn span(&self) -> u32 {
         self.span

@@ -1,3 +1,4 @@
+-- A stereo sample of its two channels, for the law that reading a coding gives the sample back.
 use Rattle.samples.specs.declared.sample.MonoSample.{MonoSample}
 use Rattle.samples.specs.declared.sample.StereoSample.{StereoSample}
 

@@ -1,7 +1,6 @@
 //! What a value is seen as, as a value of no bytes.
-//! A struct over a type parameter wants an invariant over its parameter's view. A plain ghost field cannot
-//! cite a bound's ghost member, but it can cite the fields of a witness, and the witness owns the fact that
-//! its `view` is the view of its `subject`.
+//! A struct over a type parameter that wants an invariant over its parameter's view holds a witness: the struct's
+//! ghost fields cite the fields of the witness, which owns the fact that its `view` is the view of its `subject`.
 ghost use Rattle.std.specs.Prelude.{◌≡◌, ℕ, List};
 ghost use base.Fml.{feq};
 ghost use denote.Sharing.{said};
