@@ -2,5 +2,5 @@
 pub mod Marks
 pub mod Faults
 pub mod Views
-pub mod Calls
 pub mod Tickets
+pub mod Calls

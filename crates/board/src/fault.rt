@@ -1,11 +1,12 @@
 //! Why a board refuses a ticket, with the number and the values that each refusal tells.
-ghost use Rattle.std.specs.Prelude.{◌≡◌, [], ◌∷◌, length, take};
+ghost use Rattle.std.specs.Prelude.{◌≡◌};
 ghost use Rattle.board.specs.Faults.{number, places};
 
-use rack::{Places, RackFault};
+use pool::Places;
+use rack::RackFault;
 
 /// A refusal of a call that comes with a ticket.
-#[derive(Clone, Copy)]
+#[derive(Clone, Copy, Debug, PartialEq, Eq)]
 pub enum BoardFault {
     // 40: a ticket of another board; it tells the ticket's line
     OtherMark(u32),
@@ -26,14 +27,14 @@ impl BoardFault {
 
     /// The values that the refusal tells.
     pub fn places(&self) -> Places
-        ensures count { result.count ≡ length (places self.now) }
-        ensures values { take result.count result.values ≡ places self.now }
+        ensures { result.items ≡ places self.now }
     {
         match self {
-            BoardFault::OtherMark(line) => Places {
-                values: [*line, 0, 0],
-                count: 1,
-            },
+            BoardFault::OtherMark(line) => {
+                let mut told = Places::new();
+                told.push(*line);
+                told
+            }
             BoardFault::Rack(below) => below.places(),
         }
     }

@@ -1,7 +1,6 @@
 //! A board: one rack behind tickets, so that the compiler refuses what the rack would have to refuse while it plays.
 #![tactic(auto)]
 
-mod answers;
 mod board;
 mod fault;
 mod mark;
@@ -10,4 +9,4 @@ mod ticket;
 pub use board::Board;
 pub use fault::BoardFault;
 pub use mark::{Mark, Marks};
-pub use ticket::{Declined, Opened, Playing, Ringing, Ticket};
+pub use ticket::{AnyTicket, Declined, Opened, Phase, Playing, Ringing, Ticket};

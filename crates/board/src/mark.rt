@@ -27,10 +27,7 @@ impl Marks {
         ensures { Issues self.old result self.new }
     {
         let number = self.next;
-        if number == u32::MAX {
-            return None;
-        }
-        self.next = number + 1;
+        self.next = number.checked_add(1)?;
         Some(Mark { number })
     }
 }

@@ -4,33 +4,48 @@ ghost use Rattle.rack.specs.declared.state.State.{State};
 ghost use Rattle.rack.specs.declared.state.State.TheVariants as state;
 
 use crate::fault::BoardFault;
+use std::marker::PhantomData;
 
-/// A ticket for a line that plays. Only the board's `ring` spends it.
-pub struct Playing {
-    pub(crate) mark: u32,
-    pub(crate) line: u32,
+/// The state of a ticket's line, as a type.
+pub trait Phase {
+    ghost state: { State };
 }
 
-/// A ticket for a line that rings. Only the board's `close` spends it.
-pub struct Ringing {
-    pub(crate) mark: u32,
-    pub(crate) line: u32,
+/// The line plays. Only the board's `ring` spends such a ticket.
+pub struct Playing;
+
+impl Phase for Playing {
+    ghost state = { state.Playing };
+}
+
+/// The line rings. Only the board's `close` spends such a ticket.
+pub struct Ringing;
+
+impl Phase for Ringing {
+    ghost state = { state.Ringing };
+}
+
+/// A ticket for a line: the mark of its board, and the line.
+pub struct Ticket<P: Phase> {
+    mark: u32,
+    line: u32,
+    phase: PhantomData<P>,
 }
 
 /// What a granted open answers: the line's ticket, and where its block begins.
 pub struct Opened {
-    pub ticket: Playing,
+    pub ticket: Ticket<Playing>,
     pub offset: u32,
 }
 
 /// A ticket that comes back from a call that was refused.
-pub struct Declined<T> {
-    pub ticket: T,
+pub struct Declined<P: Phase> {
+    pub ticket: Ticket<P>,
     pub fault: BoardFault,
 }
 
-/// Either ticket, by the mark of its board and by its line.
-pub trait Ticket {
+/// What a line is tapped with: a ticket of either phase, or a type of the caller's own that stands for one.
+pub trait AnyTicket {
     ghost marked: { Self → ℕ };
 
     ghost lined: { Self → ℕ };
@@ -44,12 +59,12 @@ pub trait Ticket {
         ensures { result ≡ lined self.now };
 }
 
-impl Ticket for Playing {
+impl<P: Phase> AnyTicket for Ticket<P> {
     ghost marked = { λ t. t.mark };
 
     ghost lined = { λ t. t.line };
 
-    ghost stated = { state.Playing };
+    ghost stated = { P.state };
 
     fn mark(&self) -> u32 {
         self.mark
@@ -60,18 +75,42 @@ impl Ticket for Playing {
     }
 }
 
-impl Ticket for Ringing {
-    ghost marked = { λ t. t.mark };
-
-    ghost lined = { λ t. t.line };
-
-    ghost stated = { state.Ringing };
-
-    fn mark(&self) -> u32 {
-        self.mark
+impl<P: Phase> Ticket<P> {
+    // Only a granted open and a granted ring make a ticket.
+    pub(crate) fn new(mark: u32, line: u32) -> Ticket<P>
+        ensures mark { result.mark ≡ mark }
+        ensures line { result.line ≡ line }
+    {
+        Ticket {
+            mark,
+            line,
+            phase: PhantomData,
+        }
     }
+}
 
-    fn line(&self) -> u32 {
-        self.line
+impl Ticket<Playing> {
+    // A granted ring turns a playing ticket into a ringing one.
+    pub(crate) fn into_ringing(self) -> Ticket<Ringing>
+        ensures mark { result.mark ≡ self.mark }
+        ensures line { result.line ≡ self.line }
+    {
+        let Ticket {
+            mark,
+            line,
+            phase: _,
+        } = self;
+        Ticket::new(mark, line)
+    }
+}
+
+impl Ticket<Ringing> {
+    // A granted close spends a ringing ticket: it is the one place where one ends.
+    pub(crate) fn spend(self) {
+        let Ticket {
+            mark: _,
+            line: _,
+            phase: _,
+        } = self;
     }
 }

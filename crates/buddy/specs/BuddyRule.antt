@@ -1,13 +1,10 @@
 -- The rule of the buddy supply: each run has a reserve, the smallest power of two of pages that holds it, at a page
 -- divisible by that power. A count fits if such a reserve touches no other run's, and the lowest one is taken.
-use Rattle.std.specs.Prelude.{◌≡◌, ℕ, ◌+◌, ◌%◌, ◌<◌, ◌≤◌, List, slice_index}
+use Rattle.std.specs.Prelude.{◌≡◌, ℕ, ◌+◌, ◌%◌, ◌<◌, ◌≤◌, List}
+use Rattle.pages.specs.Rule.{Rule}
 use Rattle.pages.specs.Table.{Free}
 use Rattle.pages.specs.Lowest.{Lowest}
 use Rattle.buddy.specs.Reserve.{power_for, reserves}
-
--- each run stands at a page that its reserve divides
-abbrev pub Aligned : List ℕ → Type 0
-Aligned t = (g : ℕ) → 0 < slice_index t g → g % power_for (slice_index t g) ≡ 0
 
 -- a reserve for `count` pages can stand at p
 abbrev pub FreeReserve : (span : ℕ) → List ℕ → (count p : ℕ) → Type 0
@@ -20,3 +17,7 @@ BuddyFits span t count = (0 < count) × ((p : ℕ) × FreeReserve span t count p
 -- p is the lowest place of such a reserve
 abbrev pub LowestReserve : (span : ℕ) → List ℕ → (count p : ℕ) → Type 0
 LowestReserve span t count = Lowest (FreeReserve span t count)
+
+-- the rule of a buddy supply of so many pages
+abbrev pub buddy : (span : ℕ) → Rule
+buddy span = record { largest = span; fits = BuddyFits span; chooses = LowestReserve span }

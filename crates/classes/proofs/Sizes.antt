@@ -1,67 +1,67 @@
 -- What the tables say, by one computed test of each, and what follows of slots.
-use Rattle.std.proofs.Common.{◌≡◌, ℕ, zero, suc, ◌+◌, ◌-◌, ◌*◌, ◌/◌, ◌%◌, ◌^◌, ◌<◌, ◌≤◌, Bool, true, false, T, eqb, ltb, leb, ◌⊎◌, List, [], ◌∷◌, get_or, sym, refl, ap, ◌∙◌, subst, inl, inr, ⊎_elim, lt_trans, mul_comm, div-lt_iff_lt-mul, mul-lt-mul_of_pos_right, mul-pos, mul-div_cancel, mul_left_comm, arith, eqb→eq, ltb→lt, leb→le, pow_pos, pow-add}
+use Rattle.std.proofs.Common.{length, zero-add, ◌≡◌, ℕ, zero, suc, ◌+◌, ◌-◌, ◌*◌, ◌/◌, ◌%◌, ◌^◌, ◌<◌, ◌≤◌, Bool, true, false, eqb, ltb, leb, List, [], ◌∷◌, get_or, sym, refl, ap, ◌∙◌, subst, ⊎_elim, lt_trans, lt_of_le_of_lt, le_of_lt, le_refl, mul_comm, div-lt_iff_lt-mul, mul-lt-mul_of_pos_right, mul-pos, mul-div_cancel, mul_left_comm, arith, pow_pos, pow-add}
 use native.Mathlib.Nat.{div-div-eq-div-mul}
 use Rattle.std.proofs.lemmas.Nat.{shr_le}
-use Rattle.classes.specs.Rule.{power_of, multiple_of, size_of, slots_of, run_bytes, Smallest, Starts}
-use Rattle.classes.proofs.Entries.{both, both_left, both_right, Table, entry}
+use Rattle.std.proofs.Math.Nat.{zero-lt-suc}
+use Rattle.std.specs.Prelude.{◌&&◌, Option, None, Some, MatchOption}
+use Rattle.std.specs.Bool.{then_some}
+use Rattle.std.specs.List.{list_all, enumerate_from}
+use Rattle.std.proofs.lemmas.List.FromFn.{length-enumerate_from, get_or-enumerate_from}
+use Rattle.std.proofs.lemmas.List.Sums.{AllPass-from_list_all}
+use Rattle.std.proofs.lemmas.Bool.{eqb-false, eqb-true, leb-true, ltb-true, and_parts, cases_lt, agree_below, agree_below_at}
+use Rattle.classes.specs.Rule.{power_of, multiple_of, size_of, slots_of, run_bytes, Smallest, InSlot, Starts, NoneStarts}
 
 -- the size before class c: the largest that does not hold what c holds
 abbrev size_before : ℕ → ℕ
 size_before zero = 0
 size_before (suc c) = size_of c
 
--- x, at place j, is the smallest class for the length j + 1
+-- x is the smallest class for the length j + 1
 abbrev smallest : ℕ → ℕ → Bool
-smallest j x = both (ltb x 32) (both (leb (suc j) (size_of x)) (ltb (size_before x) (suc j)))
+smallest j x = ltb x 32 && (leb (suc j) (size_of x) && ltb (size_before x) (suc j))
 
--- x, at place c, is the size of class c
-abbrev sized : ℕ → ℕ → Bool
-sized c x = eqb x (size_of c)
+-- a table has n entries, and a test passes at each place with its entry
+abbrev pub Table : (ℕ → ℕ → Bool) → ℕ → List ℕ → Type 0
+Table test n xs = (eqb (length xs) n && list_all (λ e. test e.0 e.1) (enumerate_from 0 xs)) ≡ true
 
-last : (d n : ℕ) → d < suc n → (d < n) ⊎ (d ≡ n)
-last d n h = grind arith
+entry : (test : ℕ → ℕ → Bool) (n : ℕ) (xs : List ℕ) → Table test n xs → (k : ℕ) → k < n → test k (get_or xs k 0) ≡ true
+entry test n xs t k h =
+    let (long, all) = and_parts (eqb (length xs) n) (list_all (λ e. test e.0 e.1) (enumerate_from 0 xs)) t in
+    let inside : k < length xs = rw (eqb-true (length xs) n long) h in
+    let here = get_or-enumerate_from 0 xs k (0, 0) inside in
+    let passed = AllPass-from_list_all (λ e. test e.0 e.1) (enumerate_from 0 xs) all k (0, 0) (rw (length-enumerate_from 0 xs) inside) in
+    rw (here, zero-add k) at passed
 
--- the sizes rise, from each of the first n classes to the next
-rising : ℕ → Bool
-rising zero = true
-rising (suc n) = both (ltb (size_of n) (size_of (suc n))) (rising n)
+-- the sizes rise, from each class to the next
+rises : ℕ → Bool
+rises n = ltb (size_of n) (size_of (suc n))
 
-rises : (n : ℕ) → T (rising n) → (d : ℕ) → d < n → size_of d < size_of n
-unfolding rising
-rises zero t d h = absurd (omega arith)
-rises (suc n) t d h =
-    let next = ltb→lt (size_of n) (size_of (suc n)) (both_left _ _ t) in
-    ⊎_elim (λ less. lt_trans (rises n (both_right _ _ t) d less) next) (λ same. rw same next) (last d n h)
-
-rising_to : (n m : ℕ) → m < suc n → T (rising n) → T (rising m)
-unfolding rising
-rising_to zero m h t = let e : m ≡ 0 = omega arith in rw e tt
-rising_to (suc n) m h t =
-    ⊎_elim (λ less. rising_to n m less (both_right (ltb (size_of n) (size_of (suc n))) _ t)) (λ same. rw same t) (last m (suc n) h)
-
-all_rise : T (rising 31)
-unfolding rising
-all_rise = tt
+all_rise : agree_below rises (λ _. true) 31 ≡ true
+unfolding rises
+all_rise = refl
 
 -- a lower class is smaller
 pub sizes_rise : (c d : ℕ) → c < 32 → d < c → size_of d < size_of c
-sizes_rise c d known h = rises c (rising_to 31 c known all_rise) d h
+unfolding rises
+sizes_rise zero d known h = absurd (omega arith)
+sizes_rise (suc c) d known h =
+    let next = ltb-true (size_of c) (size_of (suc c)) (agree_below_at rises (λ _. true) 31 c all_rise (omega arith)) in
+    ⊎_elim (λ less. lt_trans (sizes_rise c d (omega arith) less) next) (λ over. let same : d ≡ c = omega arith in rw same next) (cases_lt d c)
 
-pub sized_at : (xs : List ℕ) → Table sized 32 xs → (c : ℕ) → c < 32 → get_or xs c 0 ≡ size_of c
-sized_at xs t c h = eqb→eq _ _ (entry sized 32 xs t c h)
+before : (c d : ℕ) → c < 32 → d < c → size_of d ≤ size_before c
+before zero d known h = absurd (omega arith)
+before (suc c) d known h =
+    ⊎_elim (λ less. le_of_lt (sizes_rise c d (omega arith) less)) (λ over. let same : d ≡ c = omega arith in rw same (le_refl _)) (cases_lt d c)
 
-pub smallest_from : (j x : ℕ) → j < 1792 → T (smallest j x) → Smallest (suc j) x
-smallest_from j zero within t = record { some = omega arith; within = within; known = omega arith; holds = leb→le _ _ (both_left (leb (suc j) (size_of 0)) _ t); least = λ d h. absurd (omega arith) }
-smallest_from j (suc x) within t =
-    let known = ltb→lt (suc x) 32 (both_left _ _ t) in
-    let over = ltb→lt (size_of x) (suc j) (both_right (leb (suc j) (size_of (suc x))) _ (both_right (ltb (suc x) 32) _ t)) in
-    record {
-      some = omega arith;
-      within = within;
-      known = known;
-      holds = leb→le _ _ (both_left _ _ (both_right (ltb (suc x) 32) _ t));
-      least = λ d h. ⊎_elim (λ less. lt_trans (sizes_rise x d (omega arith) less) over) (λ same. rw same over) (last d x h);
-    }
+pub sized_at : (xs : List ℕ) → Table (λ c x. eqb x (size_of c)) 32 xs → (place c : ℕ) → place ≡ c → c < 32 → get_or xs place 0 ≡ size_of c
+sized_at xs t place c e h = rw e (eqb-true _ _ (entry (λ k x. eqb x (size_of k)) 32 xs t c h))
+
+pub smallest_from : (j x : ℕ) → j < 1792 → smallest j x ≡ true → Smallest (suc j) x
+smallest_from j x within t =
+    let known = ltb-true x 32 (and_parts _ _ t).0 in
+    let holds : suc j ≤ size_of x = leb-true (suc j) (size_of x) (and_parts _ _ (and_parts _ _ t).1).0 in
+    let over : size_before x < suc j = ltb-true (size_before x) (suc j) (and_parts _ _ (and_parts _ _ t).1).1 in
+    record { some = zero-lt-suc j; within = within; known = known; holds = holds; least = λ d h. lt_of_le_of_lt (before x d known h) over }
 
 -- the table of the 1,792 lengths holds each one's smallest class
 pub smallest_at : (xs : List ℕ) → Table smallest 1792 xs → (length : ℕ) → 0 < length → length ≤ 1792 → Smallest length (get_or xs (length - 1) 0)
@@ -110,3 +110,13 @@ module _ (c : ℕ) (h : c < 32) where
       let q : p / size_of c ≡ s = ap (λ n. n / size_of c) (sym e) ∙ mul-div_cancel s size_some in
       let b : s * size_of c < slots_of c * size_of c = mul-lt-mul_of_pos_right l size_some in
       (subst (λ n. n < run_bytes c) e (subst (λ n. s * size_of c < n) slots_fill b), ap (λ n. n * size_of c) q ∙ e)
+
+  -- the slot of a place, let go where it begins elsewhere
+  pub start_kept : (p : ℕ) (slot kept : Option ℕ) {Tested : ℕ → Bool → Type 0} → ((s : ℕ) (b : Bool) → Tested s b → b ≡ eqb (s * size_of c) p)
+      → MatchOption slot (run_bytes c ≤ p) (InSlot c p) → MatchOption slot (kept ≡ None) (λ s. (b : Bool) × Tested s b × (kept ≡ then_some b s))
+      → MatchOption kept (NoneStarts c p) (Starts c p)
+  start_kept p None kept test past k = rw k (λ s starts. omega (arith, (start_slot p s starts).0, past))
+  start_kept p (Some s) kept test here (true, t, k) =
+      rw k (rw here.1 (slot_within p here.0), eqb-true (s * size_of c) p (sym (test s true t)))
+  start_kept p (Some s) kept test here (false, t, k) =
+      rw k (λ r starts. eqb-false (s * size_of c) p (sym (test s false t)) (rw (← here.1) at (start_slot p r starts).1))

@@ -15,6 +15,7 @@ pub struct Class {
 
 impl Class {
     /// The class of a number, or `None` where no class has it.
+    // No `TryFrom`: an error would say no more than `None`, as with `NonZero::new`.
     pub fn new(number: u32) -> Option<Class>
         ensures { MatchOption result (classes ≤ number) (λ c. c.number ≡ number) }
     {
@@ -22,6 +23,7 @@ impl Class {
             return None;
         }
         Some(Class {
+            // Fits, as is proved: `TryFrom` would add a refusal that never comes.
             number: number as u8,
         })
     }
@@ -43,21 +45,21 @@ impl Class {
         ensures is { result ≡ self.number }
         ensures stands { Stands result }
     {
-        self.number as u32
+        u32::from(self.number)
     }
 
     /// The bytes of a block.
     pub fn size(self) -> u32
         ensures { result ≡ size_of self.number }
     {
-        SIZE[self.number as usize] as u32
+        u32::from(SIZE[usize::from(self.number)])
     }
 
     /// The pages of a run: `k`.
     pub fn pages(self) -> u32
         ensures { result ≡ pages_of self.number }
     {
-        4 + (self.number % 4) as u32
+        4 + u32::from(self.number % 4)
     }
 
     /// The slots of a run, which fill its pages.
@@ -76,29 +78,21 @@ impl Class {
             return None;
         }
         let v = place >> self.power();
-        Some((v * RECIPROCAL[(self.number % 4) as usize]) >> 16)
+        Some((v * RECIPROCAL[usize::from(self.number % 4)]) >> 16)
     }
 
     /// The slot that begins at a place of a run, or `None` where none does.
     pub fn slot_at(self, place: u32) -> Option<u32>
         ensures { MatchOption result (NoneStarts self.number place) (λ s. Starts self.number place s) }
     {
-        match self.slot_of(place) {
-            None => None,
-            Some(slot) => {
-                if slot * self.size() == place {
-                    Some(slot)
-                } else {
-                    None
-                }
-            }
-        }
+        self.slot_of(place)
+            .filter(|slot| slot * self.size() == place)
     }
 
     // `i`: a block's size is `k * 2^i`.
     fn power(self) -> u32
         ensures { result ≡ 1 + self.number / 4 }
     {
-        1 + (self.number / 4) as u32
+        1 + u32::from(self.number / 4)
     }
 }

@@ -11,5 +11,5 @@ pub fn pages_of_long(bytes: u32) -> Option<u32>
     if bytes <= LONGEST_CLASSED || bytes > LONGEST_REQUEST {
         return None;
     }
-    Some((bytes + (PAGE_BYTES - 1)) / PAGE_BYTES)
+    Some(bytes.div_ceil(PAGE_BYTES))
 }

@@ -1,4 +1,4 @@
-//! The constant tables of the size classes.
+//! The constant tables of the size classes. `u32` has no `From` to `usize`, so lengths and places are cast.
 ghost use Rattle.std.specs.Prelude.{ℕ, ◌<◌, ◌≤◌};
 ghost use Rattle.classes.specs.Limits.{longest_classed};
 ghost use Rattle.classes.specs.Rule.{Smallest};

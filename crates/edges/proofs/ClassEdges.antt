@@ -6,11 +6,11 @@ use Rattle.edges.specs.Edges.{ClassEdges}
 pub class_edges : ClassEdges
 class_edges =
     record {
-      eight = smallest_from 7 0 (omega arith) tt;
-      nine = smallest_from 8 1 (omega arith) tt;
-      quarter = smallest_from 223 19 (omega arith) tt;
-      past_quarter = smallest_from 224 20 (omega arith) tt;
-      longest = smallest_from 1791 31 (omega arith) tt;
+      eight = smallest_from 7 0 (omega arith) refl;
+      nine = smallest_from 8 1 (omega arith) refl;
+      quarter = smallest_from 223 19 (omega arith) refl;
+      past_quarter = smallest_from 224 20 (omega arith) refl;
+      longest = smallest_from 1791 31 (omega arith) refl;
       shortest_long = record { long = omega arith; within = omega arith; holds = omega arith; least = λ q h. omega arith };
       longest_long = record { long = omega arith; within = omega arith; holds = omega arith; least = λ q h. omega arith };
       slot_start = (omega arith, refl);

@@ -3,10 +3,7 @@ use classes::{Class, pages_of_long};
 use std::test::Fail;
 
 fn class_of(length: u32) -> Option<u32> {
-    match Class::of_length(length) {
-        Some(class) => Some(class.number()),
-        None => None,
-    }
+    Class::of_length(length).map(Class::number)
 }
 
 #[test]

@@ -1,32 +1,16 @@
 -- Lemmas on a guard's tables.
-use Rattle.std.specs.Prelude.{◌≡◌, ℕ, zero, suc, ◌+◌, ◌-◌, ◌<◌, ◌≤◌, cond, ◌⊎◌, List, [], ◌∷◌, length, take, set, sum, ◌==◌, nat_lt, slice_index, slice_index_or, slice_set, refl}
+use Rattle.std.specs.Prelude.{◌≡◌, ℕ, zero, suc, ◌+◌, ◌-◌, ◌<◌, ◌≤◌, cond, ◌⊎◌, List, [], ◌∷◌, length, take, set, sum, ◌≢◌, ◌==◌, nat_lt, slice_index, slice_index_or, slice_set, refl}
 use Rattle.std.proofs.Common.{sym, ap, subst, ◌∙◌, inl, inr, ⊎_elim, arith, add-one}
 use Rattle.std.proofs.lemmas.Bool.{cases_lt, cases_eq, cond-true, cond-false, lt-ltb, le-ltb, eq-eqb, ne_eqb}
 use Rattle.std.proofs.lemmas.Bool.Decides.{nat_tests}
 use Rattle.std.proofs.lemmas.List.Sums.{sum_by_more, sum_by-set, get_or-le-sum_by}
 use Rattle.std.proofs.lemmas.List.{map-set, take_all, length-map, get_or_past}
-use Rattle.pages.specs.Table.{Inside, Apart, Free, SameFits, SameChoice, Nothing}
+use Rattle.pages.specs.Rule.{Rule, SameRule}
+use Rattle.pages.specs.Table.{Inside, Apart, Free, Nothing}
 use Rattle.pages.specs.declared.run.Run.{Run}
 use Rattle.pages.specs.Calls.{Added, Removed}
 use Rattle.pages.specs.Tables.{at_set, within}
-use Rattle.guard.specs.GuardRule.{extra_of, extra_pages, shorter, longer, Above, GuardFits, GuardChooses}
-
--- ---- how many pages more
-
-pub extra_cases : (L more : ℕ) → (extra_of L more ≡ more) ⊎ (extra_of L more ≡ 0)
-extra_cases L more = ⊎_elim (λ h. inl (cond-true (nat_lt 1 L) more 0 (lt-ltb 1 L h))) (λ h. inr (cond-false (nat_lt 1 L) more 0 (le-ltb 1 L h))) (cases_lt 1 L)
-
-pub extra_again : (L more : ℕ) → extra_of L (extra_of L more) ≡ extra_of L more
-extra_again L more =
-    ⊎_elim (λ h. cond-true (nat_lt 1 L) (extra_of L more) 0 (lt-ltb 1 L h))
-    (λ h. cond-false (nat_lt 1 L) (extra_of L more) 0 (le-ltb 1 L h) ∙ sym (cond-false (nat_lt 1 L) more 0 (le-ltb 1 L h)))
-    (cases_lt 1 L)
-
-pub extra_less : (L more : ℕ) → more ≤ 1 → 0 < L → extra_of L more < L
-extra_less L more o p = ⊎_elim (λ h. omega (arith, cond-true (nat_lt 1 L) more 0 (lt-ltb 1 L h))) (λ h. omega (arith, cond-false (nat_lt 1 L) more 0 (le-ltb 1 L h))) (cases_lt 1 L)
-
-pub above_extra : (L more : ℕ) (t : List ℕ) → Above more t → Above (extra_of L more) t
-above_extra L more t h f p = ⊎_elim (λ e. omega (arith, h f p)) (λ e. omega arith) (extra_cases L more)
+use Rattle.guard.specs.GuardRule.{extra_pages, shorter, longer, Above, guarded}
 
 -- ---- tables
 
@@ -66,13 +50,14 @@ shorter_free k t f c h g p l =
     let r : f < g + slice_index_or t g 0 = omega arith in
     omega (arith, h g q r)
 
-pub same_longer : (F G : List ℕ → ℕ → Type 0) (k j : ℕ) → SameFits F G → j ≡ k → SameFits (GuardFits F k) (GuardFits G j)
-same_longer F G k j same e =
-    subst (λ (m : ℕ). SameFits (GuardFits F k) (GuardFits G m)) (sym e) (λ t c. ((λ h. (h.0, (same (longer k t) (c + k)).0 h.1)), λ h. (h.0, (same (longer k t) (c + k)).1 h.1)))
-
-pub same_choice : (F G : List ℕ → ℕ → ℕ → Type 0) (k j : ℕ) → SameChoice F G → j ≡ k → SameChoice (GuardChooses F k) (GuardChooses G j)
-same_choice F G k j same e =
-    subst (λ (m : ℕ). SameChoice (GuardChooses F k) (GuardChooses G m)) (sym e) (λ t c p. ((λ h. (same (longer k t) (c + k) p).0 h), λ h. (same (longer k t) (c + k) p).1 h))
+-- rules that say the same below are guarded alike
+pub same_guarded : (k : ℕ) (R Q : Rule) → SameRule R Q → SameRule (guarded k R) (guarded k Q)
+same_guarded k R Q s =
+    record {
+      largest = omega (arith, s.largest);
+      fits = λ t c. ((λ h. (h.0, (s.fits (longer k t) (c + k)).0 h.1)), λ h. (h.0, (s.fits (longer k t) (c + k)).1 h.1));
+      chooses = λ t c p. s.chooses (longer k t) (c + k) p;
+    }
 
 pub above_put : (k f v : ℕ) (t : List ℕ) → f < length t → (0 < v → k < v) → Above k t → Above k (slice_set t f v)
 above_put k f v t l p h g q = ⊎_elim (λ e. omega (arith, p (omega arith))) (λ e. omega (arith, h g (omega arith))) (at_set t f v g l)
@@ -115,123 +100,86 @@ sum_nothing t n = omega (arith, sum_le 0 t (λ f p. omega (arith, n f)) (λ f g 
 pub sum_shorter : (k : ℕ) (t : List ℕ) → Nothing t → sum (shorter k t) ≡ 0
 sum_shorter k t n = sum_nothing (shorter k t) (λ f. omega (arith, n f, get_or_shorter k t f))
 
-pub sum_extra : (L more pages : ℕ) (t : List ℕ) → L ≤ 1 → pages ≡ sum t → pages ≡ sum (shorter (extra_of L more) t)
-sum_extra L more pages t h e =
-    let z : extra_of L more ≡ 0 = cond-false (nat_lt 1 L) more 0 (le-ltb 1 L h) in
-    e ∙ ap sum (sym (shorter_none t)) ∙ ap (λ (k : ℕ). sum (shorter k t)) (sym z)
-
 -- ---- the calls
 
-module _ (L M more q : ℕ) (e : q ≡ extra_of L more) (t : M ≡ L) where
-  -- the extra pages are as many after a call, with what the guard keeps then
-  pub extra_kept : extra_of M more ≡ extra_of L more
-  extra_kept = ap (λ (m : ℕ). extra_of m more) t
+module _ (k n : ℕ) (some : 0 < n) (R : Rule) (u v : List ℕ) (w : Above k u) where
+  -- a run is taken
+  pub took : (run : Run) → n ≤ R.largest - k → Added R (n + k) u v run → Added (guarded k R) n (shorter k u) (shorter k v) (record { first = run.first; count = n })
+  took run l h =
+      record {
+        same = refl;
+        some = some;
+        most = l;
+        fit = (some, subst (λ (x : List ℕ). R.fits x (n + k)) (sym (back k u w)) h.fit);
+        inside = omega (arith, h.inside, length-map u (λ x. x - k));
+        free = shorter_free k u run.first n h.free;
+        chosen = subst (λ (x : List ℕ). R.chooses x (n + k) run.first) (sym (back k u w)) h.chosen;
+        after_is = ap (shorter k) h.after_is ∙ shorter_put k n run.first u;
+      }
 
-  pub extra_set : extra_of M q ≡ extra_of L more
-  extra_set = ap (λ (m : ℕ). extra_of m q) t ∙ ap (extra_of L) e ∙ extra_again L more
+  pub took_above : (run : Run) → Added R (n + k) u v run → Above k v
+  took_above run h = subst (λ (x : List ℕ). Above k x) (sym h.after_is) (above_put k run.first (n + k) u (omega (arith, h.inside)) (λ _. omega arith) w)
 
-  module _ (F G : List ℕ → ℕ → Type 0) (same : SameFits F G) where
-    pub rule_kept : SameFits (GuardFits F (extra_of L more)) (GuardFits G (extra_of M more))
-    rule_kept = same_longer F G (extra_of L more) (extra_of M more) same extra_kept
+  pub took_counted : (run : Run) (pages : ℕ) → Added R (n + k) u v run → pages ≡ sum (shorter k u) → pages + n ≡ sum (shorter k v)
+  took_counted run pages h p =
+      let f = run.first in
+      let z : slice_index_or u f 0 ≡ 0 = ⊎_elim (λ q. let l : f < f + slice_index_or u f 0 = omega arith in omega (arith, h.free f q l)) (λ q. omega arith) (cases_lt 0 (slice_index u f)) in
+      let g = get_or_shorter k u f in
+      let s = sum_by-set (λ (x : ℕ). x) (shorter k u) f n 0 (omega (arith, h.inside, length-map u (λ x. x - k))) in
+      let c : sum (shorter k v) ≡ sum (slice_set (shorter k u) f n) = ap (λ (x : List ℕ). sum (shorter k x)) h.after_is ∙ ap sum (shorter_put k n f u) in
+      omega arith
 
-    pub rule_set : SameFits (GuardFits F (extra_of L more)) (GuardFits G (extra_of M q))
-    rule_set = same_longer F G (extra_of L more) (extra_of M q) same extra_set
+  -- a run is given
+  module _ (f : ℕ) (h : Removed R f (n + k) u v) where
+    begins : f < length u
+    begins = within u f (omega (arith, h.was.1))
 
-  module _ (F G : List ℕ → ℕ → ℕ → Type 0) (same : SameChoice F G) where
-    pub choice_kept : SameChoice (GuardChooses F (extra_of L more)) (GuardChooses G (extra_of M more))
-    choice_kept = same_choice F G (extra_of L more) (extra_of M more) same extra_kept
+    pub gave_above : Above k v
+    gave_above = subst (λ (x : List ℕ). Above k x) (sym h.after_is) (above_put k f 0 u begins (λ q. omega arith) w)
 
-    pub choice_set : SameChoice (GuardChooses F (extra_of L more)) (GuardChooses G (extra_of M q))
-    choice_set = same_choice F G (extra_of L more) (extra_of M q) same extra_set
+    pub gave : Removed (guarded k R) f n (shorter k u) (shorter k v)
+    gave =
+        record {
+          was = (some, omega (arith, get_or_shorter k u f, h.was.1));
+          after_is = ap (shorter k) h.after_is ∙ shorter_clear k f u;
+          fit = (some, subst (λ (x : List ℕ). R.fits x (n + k)) (sym (back k v gave_above)) h.fit);
+        }
 
-  pub largest_kept : M - extra_of M more ≡ L - extra_of L more
-  largest_kept = omega (arith, t, extra_kept)
-
-  pub largest_set : M - extra_of M q ≡ L - extra_of L more
-  largest_set = omega (arith, t, extra_set)
-
-  module _ (u : List ℕ) (w : Above more u) where
-    above_here : Above q u
-    above_here = subst (λ (k : ℕ). Above k u) (sym e) (above_extra L more u w)
-
-    pub pages_fit : (pages : ℕ) → pages ≡ sum (shorter (extra_of L more) u) → Inside (length u) u → Apart u → pages ≤ length u
-    pages_fit pages p i a =
-        omega (arith, p, sum_le (length (shorter (extra_of L more) u)) (shorter (extra_of L more) u) (shorter_inside (extra_of L more) u i) (shorter_apart (extra_of L more) u a), length-map u (λ n. n - extra_of L more))
-
-    module _ (n : ℕ) (some : 0 < n) where
-      -- a run is taken
-      pub put_state : (f pages : ℕ) (v : List ℕ) → q ≤ 1 → f + (n + q) ≤ length u → Free u f (n + q) → v ≡ slice_set u f (n + q) → pages ≡ sum (shorter (extra_of L more) u)
-          → (q ≤ 1) × (Above q v × ((pages + n ≡ sum (shorter q v)) × Unit {0}))
-      put_state f pages v one i free d p =
-          let z : slice_index_or u f 0 ≡ 0 = ⊎_elim (λ h. let l : f < f + slice_index_or u f 0 = omega arith in omega (arith, free f h l)) (λ h. omega arith) (cases_lt 0 (slice_index u f)) in
-          let l : f < length u = omega arith in
-          let wv : Above q v = subst (λ (x : List ℕ). Above q x) (sym d) (above_put q f (n + q) u l (λ _. omega arith) above_here) in
-          let g = get_or_shorter q u f in
-          let s = sum_by-set (λ (x : ℕ). x) (shorter q u) f n 0 (omega (arith, length-map u (λ x. x - q))) in
-          let c : sum (shorter q v) ≡ sum (slice_set (shorter q u) f n) = ap (λ (x : List ℕ). sum (shorter q x)) d ∙ ap sum (shorter_put q n f u) in
-          let p' : pages ≡ sum (shorter q u) = p ∙ ap (λ (k : ℕ). sum (shorter k u)) (sym e) in
-          (one, (wv, (omega arith, tt)))
-
-      -- a run is given
-      pub clear_state : (f pages : ℕ) (v : List ℕ) → q ≤ 1 → slice_index u f ≡ n + q → v ≡ slice_set u f 0 → pages ≡ sum (shorter (extra_of L more) u)
-          → (n ≤ pages) × ((q ≤ 1) × (Above q v × ((pages - n ≡ sum (shorter q v)) × Unit {0})))
-      clear_state f pages v one was d p =
-          let l : f < length u = within u f (omega arith) in
-          let m : f < length (shorter q u) = omega (arith, length-map u (λ x. x - q)) in
-          let wv : Above q v = subst (λ (x : List ℕ). Above q x) (sym d) (above_put q f 0 u l (λ h. omega arith) above_here) in
-          let g = get_or_shorter q u f in
-          let s = sum_by-set (λ (x : ℕ). x) (shorter q u) f 0 0 m in
-          let b = get_or-le-sum_by (λ (x : ℕ). x) (shorter q u) f 0 m in
-          let c : sum (shorter q v) ≡ sum (slice_set (shorter q u) f 0) = ap (λ (x : List ℕ). sum (shorter q x)) d ∙ ap sum (shorter_clear q f u) in
-          let p' : pages ≡ sum (shorter q u) = p ∙ ap (λ (k : ℕ). sum (shorter k u)) (sym e) in
-          (omega arith, (one, (wv, (omega arith, tt))))
-
-      module _ (F : List ℕ → ℕ → Type 0) (C : List ℕ → ℕ → ℕ → Type 0) (v a b : List ℕ) (ea : a ≡ u) (eb : b ≡ v) where
-        -- with the same extra pages on both sides
-        alike : (P : ℕ → ℕ → List ℕ → List ℕ → Type 0) → P q q u v → P (extra_of L more) (extra_of M q) a b
-        alike P h =
-            subst (λ (x : List ℕ). P (extra_of L more) (extra_of M q) x b) (sym ea)
-            (subst (λ (x : List ℕ). P (extra_of L more) (extra_of M q) u x) (sym eb)
-            (subst (λ (k : ℕ). P (extra_of L more) k u v) (sym extra_set) (subst (λ (k : ℕ). P k (extra_of L more) u v) e (subst (λ (k : ℕ). P q k u v) e h))))
-
-        pub took : (run : Run) → n ≤ L - q → Added L F C (n + q) u v run
-            → Added (L - extra_of L more) (GuardFits F (extra_of L more)) (GuardChooses C (extra_of L more)) n (shorter (extra_of L more) a) (shorter (extra_of M q) b) (record { first = run.first; count = n })
-        took run l h =
-            alike (λ k j x y. Added (L - k) (GuardFits F k) (GuardChooses C k) n (shorter k x) (shorter j y) (record { first = run.first; count = n }))
-            (record {
-              same = refl;
-              some = some;
-              most = l;
-              fit = (some, subst (λ (x : List ℕ). F x (n + q)) (sym (back q u above_here)) h.fit);
-              inside = omega (arith, h.inside, length-map u (λ x. x - q));
-              free = shorter_free q u run.first n h.free;
-              chosen = subst (λ (x : List ℕ). C x (n + q) run.first) (sym (back q u above_here)) h.chosen;
-              after_is = ap (shorter q) h.after_is ∙ shorter_put q n run.first u;
-            })
-
-        pub gave : (f : ℕ) → Above q v → Removed F f (n + q) u v → Removed (GuardFits F (extra_of L more)) f n (shorter (extra_of L more) a) (shorter (extra_of M q) b)
-        gave f wv h =
-            alike (λ k j x y. Removed (GuardFits F k) f n (shorter k x) (shorter j y))
-            (record {
-              was = (some, omega (arith, get_or_shorter q u f, h.was.1));
-              after_is = ap (shorter q) h.after_is ∙ shorter_clear q f u;
-              fit = (some, subst (λ (x : List ℕ). F x (n + q)) (sym (back q v wv)) h.fit);
-            })
+    pub gave_counted : (pages : ℕ) → pages ≡ sum (shorter k u) → (n ≤ pages) × (pages - n ≡ sum (shorter k v))
+    gave_counted pages p =
+        let m : f < length (shorter k u) = omega (arith, begins, length-map u (λ x. x - k)) in
+        let g = get_or_shorter k u f in
+        let was = h.was.1 in
+        let s = sum_by-set (λ (x : ℕ). x) (shorter k u) f 0 0 m in
+        let b = get_or-le-sum_by (λ (x : ℕ). x) (shorter k u) f 0 m in
+        let c : sum (shorter k v) ≡ sum (slice_set (shorter k u) f 0) = ap (λ (x : List ℕ). sum (shorter k x)) h.after_is ∙ ap sum (shorter_clear k f u) in
+        (omega arith, omega arith)
 
 -- ---- a new guard
 
--- what the guard keeps at its making, by the pages out below
-pub new_state : (pages more : ℕ) (t : List ℕ) → pages ≡ sum t → more ≡ cond (pages == 0) 1 0 → (more ≤ 1) × (Above more t × ((pages ≡ sum (shorter more t)) × Unit {0}))
-new_state pages more t p e =
+pub extra_one : (L : ℕ) (t : List ℕ) → 1 < L → sum t ≡ 0 → extra_pages L t ≡ 1
+extra_one L t l z = cond-true (nat_lt 1 L) _ 0 (lt-ltb 1 L l) ∙ cond-true (sum t == 0) 1 0 (eq-eqb (sum t) 0 z)
+
+pub extra_none : (L : ℕ) (t : List ℕ) → (L ≤ 1) ⊎ (sum t ≢ 0) → extra_pages L t ≡ 0
+extra_none L t a =
+    ⊎_elim (λ l. cond-false (nat_lt 1 L) _ 0 (le-ltb 1 L l))
+    (λ z. ⊎_elim (λ l. cond-true (nat_lt 1 L) _ 0 (lt-ltb 1 L l) ∙ cond-false (sum t == 0) 1 0 (ne_eqb (sum t) 0 z)) (λ l. cond-false (nat_lt 1 L) _ 0 (le-ltb 1 L l)) (cases_lt 1 L))
+    a
+
+-- what the guard keeps at its making: with a page more there is nothing out, so no run is too short
+pub new_kept : (L pages more : ℕ) (t : List ℕ) → pages ≡ sum t → 0 < L → more ≡ extra_pages L t → (more ≤ 1) × ((more < L) × (Above more t × (pages ≡ sum (shorter more t))))
+new_kept L pages more t p pos e =
+    ⊎_elim
+    (λ l.
     ⊎_elim
     (λ z.
-    let n = nothing_from t (sym p ∙ z) in
-    let o : more ≡ 1 = e ∙ cond-true (pages == 0) 1 0 (eq-eqb pages 0 z) in
-    (omega arith, ((λ f q. omega (arith, n f)), (z ∙ sym (sum_shorter more t n), tt))))
-    (λ z.
-    let o : more ≡ 0 = e ∙ cond-false (pages == 0) 1 0 (ne_eqb pages 0 z) in
-    (omega arith, ((λ f q. omega arith), (p ∙ ap sum (sym (shorter_none t)) ∙ ap (λ (k : ℕ). sum (shorter k t)) (sym o), tt))))
-    (cases_eq pages 0)
-
-pub new_extra : (pages more L M : ℕ) (t : List ℕ) → pages ≡ sum t → more ≡ cond (pages == 0) 1 0 → M ≡ L → extra_of M more ≡ extra_pages L t
-new_extra pages more L M t p e m = ap (λ (x : ℕ). extra_of x more) m ∙ ap (extra_of L) (e ∙ ap (λ (x : ℕ). cond (x == 0) 1 0) p)
+    let n = nothing_from t z in
+    let o : more ≡ 1 = e ∙ extra_one L t l z in
+    (omega arith, (omega arith, ((λ f q. omega (arith, n f)), omega (arith, p, z, sum_shorter more t n)))))
+    (λ z. none (e ∙ extra_none L t (inr z)))
+    (cases_eq (sum t) 0))
+    (λ l. none (e ∙ extra_none L t (inl l)))
+    (cases_lt 1 L)
+  where
+    none : more ≡ 0 → (more ≤ 1) × ((more < L) × (Above more t × (pages ≡ sum (shorter more t))))
+    none z = (omega arith, (omega arith, ((λ f q. omega arith), p ∙ ap sum (sym (shorter_none t)) ∙ ap (λ (k : ℕ). sum (shorter k t)) (sym z))))

@@ -18,10 +18,8 @@ impl Held {
     pub fn of_request(bytes: u32) -> Option<Held>
         ensures { MatchOption result (NoShape bytes) (λ h. (h.bytes ≡ bytes) × ShapeOf bytes h.shape) }
     {
-        match Shape::of_request(bytes) {
-            Some(shape) => Some(Held { bytes, shape }),
-            None => None,
-        }
+        let shape = Shape::of_request(bytes)?;
+        Some(Held { bytes, shape })
     }
 
     /// The bytes of its block.
@@ -42,21 +40,16 @@ impl Held {
 impl fmt::Display for Held {
     fn fmt<W: fmt::Write>(&self, f: &mut fmt::Formatter<W>) -> fmt::Result {
         match self.shape.class() {
-            Some(class) => {
-                let number = class.number();
-                write!(f, "class {number}")?;
-            }
-            None => {
-                write!(f, "no class")?;
-            }
+            Some(class) => write!(f, "class {}", class.number())?,
+            None => write!(f, "no class")?,
         }
-        let size = self.size();
-        let pages = self.shape.count();
-        let slots = self.shape.slots();
-        let lost = self.lost();
         write!(
             f,
-            ", block {size}, pages {pages}, slots {slots}, lost {lost}"
+            ", block {}, pages {}, slots {}, lost {}",
+            self.size(),
+            self.shape.count(),
+            self.shape.slots(),
+            self.lost()
         )
     }
 }

@@ -17,10 +17,7 @@ use totals::Totals;
 fn length(text: &[u8]) -> Option<u32>
     ensures { Length text.now result }
 {
-    match from_utf8(text) {
-        Ok(text) => text.parse::<u32>().ok(),
-        Err(_) => None,
-    }
+    from_utf8(text).ok()?.parse().ok()
 }
 
 // Answers one line of input.
@@ -36,26 +33,20 @@ fn answer<W: Write>(out: &mut W, totals: &mut Totals, number: u64, line: &[u8]) 
         }
         None => {
             totals.refuse();
-            let most = LONGEST_REQUEST;
             writeln!(
                 out,
-                "{bytes} bytes: refused, a request has 1 to {most} bytes"
+                "{bytes} bytes: refused, a request has 1 to {LONGEST_REQUEST} bytes"
             )
         }
     }
 }
 
 fn main(rt: HostRuntime) -> io::Result<()> {
-    let mut input = BufReader::new(rt.alloc(), rt.stdin())?;
+    let lines = BufReader::new(rt.alloc(), rt.stdin())?.split(rt.alloc(), b'\n');
     let mut out = BufWriter::new(rt.alloc(), rt.stdout())?;
     let mut totals = Totals::new();
-    let mut line = Vec::new(rt.alloc());
-    for number in 1..u64::MAX {
-        line.clear();
-        if input.read_until(b'\n', &mut line)? == 0 {
-            break;
-        }
-        answer(&mut out, &mut totals, number, line.as_slice())?;
+    for (number, line) in (1..).zip(lines) {
+        answer(&mut out, &mut totals, number, line?.as_slice())?;
     }
     writeln!(out, "{totals}")?;
     out.flush()

@@ -5,7 +5,7 @@ ghost use Rattle.layout.specs.Sums.{capped};
 use std::fmt;
 
 /// Counts that stop at their largest value.
-#[derive(Clone, Copy)]
+#[derive(Clone, Copy, Default)]
 pub struct Totals {
     held: u64,
     refused: u64,
@@ -17,12 +17,7 @@ impl Totals {
     pub fn new() -> Totals
         ensures { (result.held ≡ 0) × (result.refused ≡ 0) × (result.asked ≡ 0) × (result.lent ≡ 0) }
     {
-        Totals {
-            held: 0,
-            refused: 0,
-            asked: 0,
-            lent: 0,
-        }
+        Totals::default()
     }
 
     /// A request that is held in a block of so many bytes.
@@ -50,10 +45,12 @@ impl Totals {
 
 impl fmt::Display for Totals {
     fn fmt<W: fmt::Write>(&self, f: &mut fmt::Formatter<W>) -> fmt::Result {
-        let held = self.held;
-        let refused = self.refused;
-        let asked = self.asked;
-        let lent = self.lent;
+        let Totals {
+            held,
+            refused,
+            asked,
+            lent,
+        } = *self;
         let lost = lent.saturating_sub(asked);
         write!(
             f,

@@ -1,4 +1,4 @@
 -- Lemmas that the proofs of this crate and of those above it share.
-pub mod Rows
 pub mod Made
-pub mod Laws
+pub mod SameRules
+pub mod Refusals

@@ -1,5 +1,6 @@
 -- The rule of the first fit: a count fits if that many free pages stand in a row, and the lowest place is taken.
 use Rattle.std.specs.Prelude.{ℕ, ◌+◌, ◌<◌, ◌≤◌, List}
+use Rattle.pages.specs.Rule.{Rule}
 use Rattle.pages.specs.Table.{Free}
 use Rattle.pages.specs.Lowest.{Lowest}
 
@@ -14,3 +15,7 @@ FirstFits span t count = (0 < count) × ((p : ℕ) × FreeRow span t count p)
 -- p is the lowest place of such a row
 abbrev pub LowestRow : (span : ℕ) → List ℕ → (count p : ℕ) → Type 0
 LowestRow span t count = Lowest (FreeRow span t count)
+
+-- the rule of a first fit over so many pages
+abbrev pub first_fit : (span : ℕ) → Rule
+first_fit span = record { largest = span; fits = FirstFits span; chooses = LowestRow span }

@@ -20,11 +20,3 @@ Apart t = (f g : ℕ) → f < g → 0 < slice_index t g → f + slice_index t f 
 -- no run has one of the `count` pages from `first` on
 abbrev pub Free : List ℕ → (first count : ℕ) → Type 0
 Free t first count = (g : ℕ) → 0 < slice_index t g → first < g + slice_index t g → first + count ≤ g
-
--- two rules let the same counts fit
-abbrev pub SameFits : (List ℕ → ℕ → Type 0) → (List ℕ → ℕ → Type 0) → Type 0
-SameFits P Q = (t : List ℕ) (c : ℕ) → (P t c → Q t c) × (Q t c → P t c)
-
--- two rules choose the same places
-abbrev pub SameChoice : (List ℕ → ℕ → ℕ → Type 0) → (List ℕ → ℕ → ℕ → Type 0) → Type 0
-SameChoice P Q = (t : List ℕ) (c p : ℕ) → (P t c p → Q t c p) × (Q t c p → P t c p)

@@ -2,7 +2,7 @@
 ghost use Rattle.std.specs.Prelude.{◌≡◌, [], ◌∷◌};
 ghost use Rattle.pages.specs.Faults.{number, places, span_number, span_places};
 
-#[derive(Clone, Copy)]
+#[derive(Clone, Copy, PartialEq, Eq, Debug)]
 pub enum SupplyFault {
     // 11: a count of 0, or above the largest
     BadCount(u32),
@@ -35,7 +35,7 @@ impl SupplyFault {
     }
 }
 
-#[derive(Clone, Copy)]
+#[derive(Clone, Copy, PartialEq, Eq, Debug)]
 pub enum SpanFault {
     // 14: a span that no supply of the kind can have
     BadSpan(u32),

@@ -4,8 +4,9 @@
 pub mod fault;
 pub mod first_fit;
 pub mod limits;
+pub mod lowest_fit;
+pub mod placement;
 pub mod run;
 pub mod span;
 pub mod supply;
 pub mod table;
-pub mod tracked;

@@ -4,6 +4,7 @@ use Rattle.std.proofs.lemmas.Bool.{false≢true, and_parts, eqb-true}
 use Rattle.classes.specs.declared.class.Class.{Class}
 use Rattle.classes.specs.Rule.{size_of}
 use Rattle.pages.specs.declared.run.Run.{Run as PageRun}
+use Rattle.pages.specs.Rule.{Rule}
 use Rattle.pages.specs.Calls.{Added}
 use Rattle.runs.specs.declared.run.Run.{Run}
 use Rattle.runs.specs.declared.shape.Shape.{Shape}
@@ -45,8 +46,8 @@ abbrev page_run : ℕ → ℕ → PageRun
 page_run f n = record { first = f; count = n }
 
 -- a run is put at the lowest vacant index, for a page_run of pages of the supply
-module _ (largest : ℕ) (fits : List ℕ → ℕ → Type 0) (chooses : List ℕ → ℕ → ℕ → Type 0) (s : Shape) (rs ts : List (Option Run)) (v w : List ℕ) (index : ℕ) (p : PageRun) (t : Run)
-    (a : Added largest fits chooses s.count v w p) (lowest : First vacant rs (Some index)) (put : ts ≡ set rs index (Some t))
+module _ (R : Rule) (s : Shape) (rs ts : List (Option Run)) (v w : List ℕ) (index : ℕ) (p : PageRun) (t : Run)
+    (a : Added R s.count v w p) (lowest : First vacant rs (Some index)) (put : ts ≡ set rs index (Some t))
     (first : t.first ≡ p.first) (shape : t.shape ≡ s) (slots : loans t.slots ≡ set (replicate (slots_in s) false) 0 true) where
   pub state_begun : State rs v → State ts w
   state_begun st =
@@ -58,16 +59,16 @@ module _ (largest : ℕ) (fits : List ℕ → ℕ → Type 0) (chooses : List �
       (subst (λ (x : List ℕ). State (set rs index (Some t)) x) (sym e)
       (state_begin rs v st index t lowest.0 (omega (arith, a.inside, a.some, first)) z (omega (arith, a.some, n)) used))
 
-  pub begun_is : Begun largest fits chooses s rs ts v w (record { index = index; run = t; slot = 0 })
+  pub begun_is : Begun R s rs ts v w (record { index = index; run = t; slot = 0 })
   begun_is =
       let same : p ≡ page_run t.first s.count = ap (λ (n : ℕ). page_run n p.count) (sym first) ∙ ap (page_run t.first) a.same in
-      record { lowest = lowest; added = subst (λ (q : PageRun). Added largest fits chooses s.count v w q) same a; put = put; shape = shape; slots = slots; slot = refl }
+      record { lowest = lowest; added = subst (λ (q : PageRun). Added R s.count v w q) same a; put = put; shape = shape; slots = slots; slot = refl }
 
 -- what `take` says where it begins a run
-pub begun_taken : (largest : ℕ) (fits : List ℕ → ℕ → Type 0) (chooses : List ℕ → ℕ → ℕ → Type 0) (bytes : ℕ) (s : Shape) (rs us ts : List (Option Run)) (v w : List ℕ) (r : Result Block PoolFault)
-    → ShapeOf bytes s → NoneServes s.class rs → us ≡ rs → Beginning largest fits chooses bytes s us ts v w r → Taken largest fits chooses bytes rs ts v w r
-begun_taken largest fits chooses bytes s rs us ts v w (Ok b) asked none e h =
-    let k = subst (λ (xs : List (Option Run)). Begun largest fits chooses s xs ts v w h.0) e h.1 in
+pub begun_taken : (R : Rule) (bytes : ℕ) (s : Shape) (rs us ts : List (Option Run)) (v w : List ℕ) (r : Result Block PoolFault)
+    → ShapeOf bytes s → NoneServes s.class rs → us ≡ rs → Beginning R bytes s us ts v w r → Taken R bytes rs ts v w r
+begun_taken R bytes s rs us ts v w (Ok b) asked none e h =
+    let k = subst (λ (xs : List (Option Run)). Begun R s xs ts v w h.0) e h.1 in
     record {
       shape = s;
       asked = asked;
@@ -76,11 +77,11 @@ begun_taken largest fits chooses bytes s rs us ts v w (Ok b) asked none e h =
       block = h.2;
       size = ap (λ (b : Block). b.size) h.2 ∙ ap block_size k.shape;
     }
-begun_taken largest fits chooses bytes s rs us ts v w (Err f) asked none e h =
+begun_taken R bytes s rs us ts v w (Err f) asked none e h =
     record {
       runs_kept = h.0 ∙ e;
       pages_kept = h.1;
       empty = λ z. absurd (omega (arith, asked.some));
       long = λ z. absurd (omega (arith, asked.within));
-      unbegun = λ a b. (s, asked, none, subst (λ (xs : List (Option Run)). NotBegun largest fits bytes s.count xs v w f) e h.2);
+      unbegun = λ a b. (s, asked, none, subst (λ (xs : List (Option Run)). NotBegun R bytes s.count xs v w f) e h.2);
     }

@@ -5,6 +5,7 @@ use Rattle.std.proofs.lemmas.List.{get_or-set_same, get_or-set_other, get_or_pas
 use Rattle.std.proofs.lemmas.Bool.{cases_eq, cases_lt, false≢true}
 use Rattle.classes.specs.declared.class.Class.{Class}
 use Rattle.pages.specs.declared.run.Run.{Run as Stretch}
+use Rattle.pages.specs.Rule.{Rule}
 use Rattle.pages.specs.Table.{Inside, Apart}
 use Rattle.pages.specs.Calls.{Removed}
 use Rattle.pages.specs.Tables.{get_or_zeros, at_set, put_inside, put_apart, clear_inside, clear_apart}
@@ -75,8 +76,8 @@ module _ (rs : List (Option Run)) (v : List ℕ) (a : Alive rs v) where
   lent_by (Some c) ts p h = alive_lent c.number ts p h
   lent_by None ts p h = absurd h
 
-  alive_begun : (largest : ℕ) (fits : List ℕ → ℕ → Type 0) (chooses : List ℕ → ℕ → ℕ → Type 0) (s : Shape) (ts : List (Option Run)) (w : List ℕ) (p : Spot) → Begun largest fits chooses s rs ts v w p → Alive ts w
-  alive_begun largest fits chooses s ts w p h =
+  alive_begun : (R : Rule) (s : Shape) (ts : List (Option Run)) (w : List ℕ) (p : Spot) → Begun R s rs ts v w p → Alive ts w
+  alive_begun R s ts w p h =
       let t = p.run in
       let d = h.added in
       let z : t.first + s.count ≤ length v = d.inside in
@@ -86,7 +87,7 @@ module _ (rs : List (Option Run)) (v : List ℕ) (a : Alive rs v) where
       let long : length w ≡ length v = ap length e ∙ length-set v t.first s.count in
       record {
         long = ap length h.put ∙ length-set rs p.index (Some t) ∙ a.long;
-        state = state_begun largest fits chooses s rs ts v w p.index stretch t d h.lowest h.put refl h.shape h.slots a.state;
+        state = state_begun R s rs ts v w p.index stretch t d h.lowest h.put refl h.shape h.slots a.state;
         inside = subst (λ (n : ℕ). Inside n w) (sym long) (subst (Inside (length v)) (sym e) (put_inside (length v) v t.first s.count l z a.inside));
         apart = subst Apart (sym e) (put_apart v t.first s.count l d.free a.apart);
         all = subst (λ (xs : List (Option Run)). AllHeld xs w) (sym h.put) (subst (AllHeld (set rs p.index (Some t))) (sym e)
@@ -101,13 +102,13 @@ module _ (rs : List (Option Run)) (v : List ℕ) (a : Alive rs v) where
       }
 
   -- a take leaves the tables so
-  pub alive_taken : (largest : ℕ) (fits : List ℕ → ℕ → Type 0) (chooses : List ℕ → ℕ → ℕ → Type 0) (bytes : ℕ) (ts : List (Option Run)) (w : List ℕ) (r : Result Block PoolFault) → Taken largest fits chooses bytes rs ts v w r → Alive ts w
-  alive_taken largest fits chooses bytes ts w (Ok b) h =
+  pub alive_taken : (R : Rule) (bytes : ℕ) (ts : List (Option Run)) (w : List ℕ) (r : Result Block PoolFault) → Taken R bytes rs ts v w r → Alive ts w
+  alive_taken R bytes ts w (Ok b) h =
       ⊎_elim
       (λ k. subst (Alive ts) (sym k.1) (lent_by h.shape.class ts h.spot k.0))
-      (λ k. alive_begun largest fits chooses h.shape ts w h.spot k.1)
+      (λ k. alive_begun R h.shape ts w h.spot k.1)
       h.from
-  alive_taken largest fits chooses bytes ts w (Err e) h = subst (λ (xs : List (Option Run)). Alive xs w) (sym h.runs_kept) (subst (Alive rs) (sym h.pages_kept) a)
+  alive_taken R bytes ts w (Err e) h = subst (λ (xs : List (Option Run)). Alive xs w) (sym h.runs_kept) (subst (Alive rs) (sym h.pages_kept) a)
 
   -- so does a release
   module _ (p : Spot) (l : OnLoan rs p) where
@@ -121,15 +122,15 @@ module _ (rs : List (Option Run)) (v : List ℕ) (a : Alive rs v) where
           all = subst (λ (xs : List (Option Run)). AllHeld xs v) (sym k.1) (all_swap rs v p.index p.run k.0 l.0 k.2.first a.all);
         }
 
-    alive_last : (fits : List ℕ → ℕ → Type 0) (ts : List (Option Run)) (w : List ℕ) → ts ≡ set rs p.index None → Removed fits p.run.first p.run.shape.count v w → Alive ts w
-    alive_last fits ts w put d =
+    alive_last : (R : Rule) (ts : List (Option Run)) (w : List ℕ) → ts ≡ set rs p.index None → Removed R p.run.first p.run.shape.count v w → Alive ts w
+    alive_last R ts w put d =
         let first = p.run.first in
         let e = d.after_is in
         let m : first < length v = ⊎_elim (λ h. h) (λ h. absurd (omega (arith, d.was.0, d.was.1, get_or_past v first 0 h))) (cases_lt first (length v)) in
         let long : length w ≡ length v = ap length e ∙ length-set v first 0 in
         record {
           long = ap length put ∙ length-set rs p.index None ∙ a.long;
-          state = state_closed rs v a.state p.index p.run l.0 first p.run.shape.count refl refl fits ts w (Ok tt) put d;
+          state = state_closed rs v a.state p.index p.run l.0 first p.run.shape.count refl refl R ts w (Ok tt) put d;
           inside = subst (λ (n : ℕ). Inside n w) (sym long) (subst (Inside (length v)) (sym e) (clear_inside (length v) v first m a.inside));
           apart = subst Apart (sym e) (clear_apart v first m a.apart);
           all = subst (λ (xs : List (Option Run)). AllHeld xs w) (sym put) (subst (AllHeld (set rs p.index None)) (sym e)
@@ -144,13 +145,13 @@ module _ (rs : List (Option Run)) (v : List ℕ) (a : Alive rs v) where
               (at_set v first 0 f m)));
         }
 
-  pub alive_released : (fits : List ℕ → ℕ → Type 0) (ts : List (Option Run)) (w : List ℕ) (offset : ℕ) → Released fits rs ts v w offset → Alive ts w
-  alive_released fits ts w offset h =
+  pub alive_released : (R : Rule) (ts : List (Option Run)) (w : List ℕ) (offset : ℕ) → Released R rs ts v w offset → Alive ts w
+  alive_released R ts w offset h =
       let p = h.spot in
       let l = h.on_loan in
-      let used = a.state.1.1.0 (p.index, p.run, l.0) in
+      let used = a.state.used (p.index, p.run, l.0) in
       ⊎_elim
-      (λ e. let k = h.restored.last e in alive_last p l fits ts w k.0 k.1)
+      (λ e. let k = h.restored.last e in alive_last p l R ts w k.0 k.1)
       (λ d.
       let more : free p.run + 1 < slots_in p.run.shape = omega arith in
       let k = h.restored.more more in

@@ -3,6 +3,7 @@ use Rattle.std.proofs.Common.{◌≡◌, ℕ, ◌+◌, ◌*◌, ◌<◌, ◌≤�
 use Rattle.std.proofs.lemmas.List.{get_or-set_same, get_or-set_other, get_or_default, get_or_past, get_or-replicate, length-set, length-replicate}
 use Rattle.std.proofs.lemmas.Bool.{cases_eq, cases_lt, false≢true}
 use Rattle.classes.specs.declared.class.Class.{Class}
+use Rattle.pages.specs.Rule.{Rule}
 use Rattle.pages.specs.Table.{Inside, Apart}
 use Rattle.runs.specs.declared.run.Run.{Run}
 use Rattle.runs.specs.declared.shape.Shape.{Shape}
@@ -122,8 +123,8 @@ module _ (rs : List (Option Run)) (v : List ℕ) (out : RunsOut rs v) (differ : 
       absurd (false≢true (sym free-slot ∙ on)))
       (cases_eq m 0)
 
-  pub begun_adds : (largest : ℕ) (fits : List ℕ → ℕ → Type 0) (chooses : List ℕ → ℕ → ℕ → Type 0) (z : Shape) (ts : List (Option Run)) (w : List ℕ) (p : Spot) → Begun largest fits chooses z rs ts v w p → Adds rs ts (block_of p)
-  begun_adds largest fits chooses z ts w p h =
+  pub begun_adds : (R : Rule) (z : Shape) (ts : List (Option Run)) (w : List ℕ) (p : Spot) → Begun R z rs ts v w p → Adds rs ts (block_of p)
+  begun_adds R z ts w p h =
       let t = p.run in
       let i = p.index in
       let us = set rs i (Some t) in
@@ -226,16 +227,16 @@ module _ (rs : List (Option Run)) (v : List ℕ) (out : RunsOut rs v) (differ : 
               (at_index rs i None x.0.index x.0.run (entry_within rs i p.run l.0) x.1.0);
         })
 
-    pub restored_drops : (fits : List ℕ → ℕ → Type 0) (ts : List (Option Run)) (w : List ℕ) → free p.run < slots_in p.run.shape → Restored fits p rs ts v w → Drops rs ts (start_of p)
-    restored_drops fits ts w used h =
+    pub restored_drops : (R : Rule) (ts : List (Option Run)) (w : List ℕ) → free p.run < slots_in p.run.shape → Restored R p rs ts v w → Drops rs ts (start_of p)
+    restored_drops R ts w used h =
         ⊎_elim (λ e. last_drops ts e (h.last e).0) (λ d. more_drops ts (h.more (omega arith)).0) (cases_eq (free p.run + 1) (slots_in p.run.shape))
 
   lent_by_adds : (o : Option Class) (ts : List (Option Run)) (p : Spot) → Lent o rs ts p → Adds rs ts (block_of p)
   lent_by_adds (Some c) ts p h = lent_adds c.number ts p h
   lent_by_adds None ts p h = absurd h
 
-  pub taken_adds : (largest : ℕ) (fits : List ℕ → ℕ → Type 0) (chooses : List ℕ → ℕ → ℕ → Type 0) (bytes : ℕ) (ts : List (Option Run)) (w : List ℕ) (r : Result Block PoolFault) → Taken largest fits chooses bytes rs ts v w r → AddsBlock rs ts r
-  taken_adds largest fits chooses bytes ts w (Ok b) h =
+  pub taken_adds : (R : Rule) (bytes : ℕ) (ts : List (Option Run)) (w : List ℕ) (r : Result Block PoolFault) → Taken R bytes rs ts v w r → AddsBlock rs ts r
+  taken_adds R bytes ts w (Ok b) h =
       subst (Adds rs ts) (sym h.block)
-      (⊎_elim (λ k. lent_by_adds h.shape.class ts h.spot k.0) (λ k. begun_adds largest fits chooses h.shape ts w h.spot k.1) h.from)
-  taken_adds largest fits chooses bytes ts w (Err e) h = h.runs_kept
+      (⊎_elim (λ k. lent_by_adds h.shape.class ts h.spot k.0) (λ k. begun_adds R h.shape ts w h.spot k.1) h.from)
+  taken_adds R bytes ts w (Err e) h = h.runs_kept

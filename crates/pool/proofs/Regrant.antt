@@ -3,7 +3,7 @@ use Rattle.std.proofs.Common.{◌≡◌, ℕ, ◌+◌, ◌<◌, ◌≤◌, true,
 use Rattle.std.proofs.lemmas.List.{get_or-set_same, length-set}
 use Rattle.std.proofs.lemmas.Bool.{cases_eq, cases_lt, false≢true, and_from, eq-eqb, lt-ltb}
 use Rattle.classes.specs.Rule.{pages_of}
-use Rattle.pages.specs.Table.{SameFits}
+use Rattle.pages.specs.Rule.{Rule, SameRule}
 use Rattle.runs.specs.declared.run.Run.{Run}
 use Rattle.runs.specs.declared.shape.Shape.{Shape}
 use Rattle.runs.specs.declared.table.Spot.{Spot}
@@ -41,10 +41,10 @@ same_count bytes s z h k =
 pub not_full : (ts : List (Option Run)) (i : ℕ) → i < length ts → get_or ts i None ≡ None → Full ts → ⊥
 not_full ts i l e h = false≢true (sym (h i l) ∙ ap vacant e)
 
-module _ (largest : ℕ) (fits rule : List ℕ → ℕ → Type 0) (chooses : List ℕ → ℕ → ℕ → Type 0) (same : SameFits rule fits) (bounds : (t : List ℕ) (c : ℕ) → fits t c → (0 < c) × (c ≤ largest))
-    (bytes : ℕ) (rs us ts : List (Option Run)) (v u w : List ℕ) (p : Spot) (l : OnLoan rs p) (asked : ShapeOf bytes p.run.shape) (back : Restored rule p rs us v u) where
+module _ (R Q : Rule) (same : SameRule R Q) (bounds : (t : List ℕ) (c : ℕ) → Q.fits t c → (0 < c) × (c ≤ Q.largest))
+    (bytes : ℕ) (rs us ts : List (Option Run)) (v u w : List ℕ) (p : Spot) (l : OnLoan rs p) (asked : ShapeOf bytes p.run.shape) (back : Restored R p rs us v u) where
   -- the run went back: its index is vacant, and its count fits
-  last_granted : free p.run + 1 ≡ slots_in p.run.shape → (r : Result Block PoolFault) → Taken largest fits chooses bytes us ts u w r → is_ok r ≡ true
+  last_granted : free p.run + 1 ≡ slots_in p.run.shape → (r : Result Block PoolFault) → Taken Q bytes us ts u w r → is_ok r ≡ true
   last_granted e (Ok b) h = refl
   last_granted e (Err f) h =
       let k = back.last e in
@@ -54,7 +54,7 @@ module _ (largest : ℕ) (fits rule : List ℕ → ℕ → Type 0) (chooses : Li
       let n = h.unbegun asked.some asked.within in
       let t = n.3.unsupplied (not_full us p.index (omega arith) empty) in
       let count : n.0.count ≡ p.run.shape.count = same_count bytes n.0 p.run.shape n.1 asked in
-      let fit : fits u n.0.count = subst (fits u) (sym count) ((same u p.run.shape.count).0 k.1.fit) in
+      let fit : Q.fits u n.0.count = subst (Q.fits u) (sym count) ((same.fits u p.run.shape.count).0 k.1.fit) in
       let b = bounds u n.0.count fit in
       absurd ((t.1.unfit b.0 b.1).1 fit)
 
@@ -74,6 +74,6 @@ module _ (largest : ℕ) (fits rule : List ℕ → ℕ → Type 0) (chooses : Li
       (λ large. absurd (omega (arith, e, ap slots_by (asked.own large).0)))
       (split bytes)
 
-  pub granted_again : free p.run < slots_in p.run.shape → (r : Result Block PoolFault) → Taken largest fits chooses bytes us ts u w r → Reuses bytes us u w r → is_ok r ≡ true
+  pub granted_again : free p.run < slots_in p.run.shape → (r : Result Block PoolFault) → Taken Q bytes us ts u w r → Reuses bytes us u w r → is_ok r ≡ true
   granted_again used r h k =
       ⊎_elim (λ e. last_granted e r h) (λ d. more_granted (omega arith) r k) (cases_eq (free p.run + 1) (slots_in p.run.shape))

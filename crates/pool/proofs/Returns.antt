@@ -3,6 +3,7 @@ use Rattle.std.proofs.Common.{◌≡◌, ℕ, ◌+◌, ◌<◌, true, false, eqb
 use Rattle.std.proofs.lemmas.List.{get_or-set_other}
 use Rattle.std.proofs.lemmas.Bool.{eqb-false}
 use Rattle.pages.specs.declared.fault.SupplyFault.{SupplyFault}
+use Rattle.pages.specs.Rule.{Rule}
 use Rattle.pages.specs.Table.{Out}
 use Rattle.pages.specs.Calls.{Given}
 use Rattle.runs.specs.declared.run.Run.{Run}
@@ -13,9 +14,9 @@ use Rattle.pool.specs.State.{Entry}
 use Rattle.pool.proofs.States.{State, at_index, none_some, entry_within, state_swap}
 
 -- a run that is out is given
-given_is : (fits : List ℕ → ℕ → Type 0) (first count : ℕ) (v w : List ℕ) (o : Result (Unit {0}) SupplyFault) → Given fits first count v w o → Out v first count → w ≡ set v first 0
-given_is fits first count v w (Ok x) h e = h.after_is
-given_is fits first count v w (Err x) h e = absurd (h.was_not e)
+given_is : (R : Rule) (first count : ℕ) (v w : List ℕ) (o : Result (Unit {0}) SupplyFault) → Given R first count v w o → Out v first count → w ≡ set v first 0
+given_is R first count v w (Ok x) h e = h.after_is
+given_is R first count v w (Err x) h e = absurd (h.was_not e)
 
 module _ (rs : List (Option Run)) (v : List ℕ) (s : State rs v) (i : ℕ) (r : Run) (here : get_or rs i None ≡ Some r) where
   -- an entry that is left begins elsewhere
@@ -23,30 +24,29 @@ module _ (rs : List (Option Run)) (v : List ℕ) (s : State rs v) (i : ℕ) (r :
   left x =
       ⊎_elim
       (λ h. absurd (none_some x.1 h.1))
-      (λ h. let y : Entry rs = (x.0, x.1, h.1) in (y, refl, refl, λ e. h.0 (s.1.0 y (i, r, here) e)))
+      (λ h. let y : Entry rs = (x.0, x.1, h.1) in (y, refl, refl, λ e. h.0 (s.differ y (i, r, here) e)))
       (at_index rs i None x.0 x.1 (entry_within rs i r here) x.2)
 
   state_close : State (set rs i None) (set v r.first 0)
-  state_close = (
-    (λ x. let y : Entry rs = (left x).0 in let o = s.0 y in subst (λ (t : Run). Out (set v r.first 0) t.first t.shape.count) (sym (left x).2) (o.0, get_or-set_other v r.first y.1.first 0 0 (λ e. (left x).3 (ap (λ (t : Run). t.first) (left x).2 ∙ e)) ∙ o.1)),
-    (
-      (λ x y e. let h = left x in let j = left y in h.1 ∙ s.1.0 h.0 j.0 (ap (λ (t : Run). t.first) (sym h.2) ∙ e ∙ ap (λ (t : Run). t.first) j.2) ∙ sym j.1),
-      ((λ x. subst (λ (t : Run). free t < slots_in t.shape) (sym (left x).2) (s.1.1.0 (left x).0)), tt),
-    ),
-  )
+  state_close =
+      record {
+        out = λ x. let y : Entry rs = (left x).0 in let o = s.out y in subst (λ (t : Run). Out (set v r.first 0) t.first t.shape.count) (sym (left x).2) (o.0, get_or-set_other v r.first y.1.first 0 0 (λ e. (left x).3 (ap (λ (t : Run). t.first) (left x).2 ∙ e)) ∙ o.1);
+        differ = λ x y e. let h = left x in let j = left y in h.1 ∙ s.differ h.0 j.0 (ap (λ (t : Run). t.first) (sym h.2) ∙ e ∙ ap (λ (t : Run). t.first) j.2) ∙ sym j.1;
+        used = λ x. subst (λ (t : Run). free t < slots_in t.shape) (sym (left x).2) (s.used (left x).0);
+      }
 
   module _ (f n : ℕ) (a : f ≡ r.first) (b : n ≡ r.shape.count) where
     pub out_here : Out v f n
-    out_here = let o = s.0 (i, r, here) in (omega (arith, o.0, b), ap (λ (m : ℕ). get_or v m 0) a ∙ o.1 ∙ sym b)
+    out_here = let o = s.out (i, r, here) in (omega (arith, o.0, b), ap (λ (m : ℕ). get_or v m 0) a ∙ o.1 ∙ sym b)
 
-    pub state_closed : (fits : List ℕ → ℕ → Type 0) (ts : List (Option Run)) (w : List ℕ) (o : Result (Unit {0}) SupplyFault) → ts ≡ set rs i None → Given fits f n v w o → State ts w
-    state_closed fits ts w o e h =
-        let k : w ≡ set v r.first 0 = given_is fits f n v w o h out_here ∙ ap (λ (m : ℕ). set v m 0) a in
+    pub state_closed : (R : Rule) (ts : List (Option Run)) (w : List ℕ) (o : Result (Unit {0}) SupplyFault) → ts ≡ set rs i None → Given R f n v w o → State ts w
+    state_closed R ts w o e h =
+        let k : w ≡ set v r.first 0 = given_is R f n v w o h out_here ∙ ap (λ (m : ℕ). set v m 0) a in
         subst (λ (us : List (Option Run)). State us w) (sym e) (subst (λ (u : List ℕ). State (set rs i None) u) (sym k) state_close)
 
   -- the slot was not the run's last on loan
   pub more_than : eqb (free r + 1) (slots_in r.shape) ≡ false → free r + 1 < slots_in r.shape
-  more_than e = omega (arith, eqb-false (free r + 1) (slots_in r.shape) e, s.1.1.0 (i, r, here))
+  more_than e = omega (arith, eqb-false (free r + 1) (slots_in r.shape) e, s.used (i, r, here))
 
   pub state_restore : (n : ℕ) (ts : List (Option Run)) → is_on_loan r n ≡ true → free r + 1 < slots_in r.shape → RestoresAt rs i n ts → State ts v
   state_restore n ts lent more h =

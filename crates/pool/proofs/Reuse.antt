@@ -3,6 +3,7 @@ use Rattle.std.proofs.Common.{◌≡◌, ℕ, true, List, get_or, Some, None, Ok
 use Rattle.std.proofs.lemmas.Bool.{cases_order, false≢true}
 use Rattle.classes.specs.declared.class.Class.{Class}
 use Rattle.classes.specs.Rule.{Smallest}
+use Rattle.pages.specs.Rule.{Rule}
 use Rattle.runs.specs.declared.run.Run.{Run}
 use Rattle.runs.specs.declared.shape.Shape.{Shape}
 use Rattle.runs.specs.Shapes.{ShapeOf}
@@ -29,9 +30,9 @@ served bytes s rs n x asked small e none =
     ap (serves c.0.number) x.2 ∙ ap (λ (m : ℕ). serves m (Some x.1)) (one_smallest bytes c.0.number n c.2 small) ∙ e in
     false≢true (sym (k x.0 (entry_within rs x.0 x.1 x.2)) ∙ f)
 
-pub taken_reuses : (largest : ℕ) (fits : List ℕ → ℕ → Type 0) (chooses : List ℕ → ℕ → ℕ → Type 0) (bytes : ℕ) (rs ts : List (Option Run)) (v w : List ℕ) (r : Result Block PoolFault) → Taken largest fits chooses bytes rs ts v w r → Reuses bytes rs v w r
-taken_reuses largest fits chooses bytes rs ts v w (Ok b) h n small x e =
+pub taken_reuses : (R : Rule) (bytes : ℕ) (rs ts : List (Option Run)) (v w : List ℕ) (r : Result Block PoolFault) → Taken R bytes rs ts v w r → Reuses bytes rs v w r
+taken_reuses R bytes rs ts v w (Ok b) h n small x e =
     (refl, ⊎_elim (λ k. k.1) (λ k. absurd (served bytes h.shape rs n x h.asked small e k.0)) h.from)
-taken_reuses largest fits chooses bytes rs ts v w (Err f) h n small x e =
+taken_reuses R bytes rs ts v w (Err f) h n small x e =
     let k = h.unbegun small.some (omega (arith, small.within)) in
     absurd (served bytes k.0 rs n x k.1 small e k.2)

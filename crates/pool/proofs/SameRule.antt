@@ -1,39 +1,39 @@
 -- A take by a rule is a take by any rule that says the same.
-use Rattle.std.proofs.Common.{◌≡◌, ℕ, List, Ok, Err, Option, Result, inl, inr, ⊎_elim, arith}
+use Rattle.std.proofs.Common.{ℕ, List, Ok, Err, Option, Result, inl, inr, ⊎_elim, arith}
 use Rattle.pages.specs.declared.fault.SupplyFault.{SupplyFault}
 use Rattle.pages.specs.declared.run.Run.{Run as PageRun}
-use Rattle.pages.specs.Table.{SameFits, SameChoice}
+use Rattle.pages.specs.Rule.{Rule, SameRule}
 use Rattle.pages.specs.Calls.{Added, NotTaken}
 use Rattle.runs.specs.declared.run.Run.{Run}
 use Rattle.pool.specs.declared.block.Block.{Block}
 use Rattle.pool.specs.declared.fault.PoolFault.{PoolFault}
 use Rattle.pool.specs.Take.{Taken}
 
-module _ (largest top : ℕ) (fits rule : List ℕ → ℕ → Type 0) (chooses choice : List ℕ → ℕ → ℕ → Type 0) (tops : top ≡ largest) (same : SameFits rule fits) (alike : SameChoice choice chooses) where
-  added_same : (count : ℕ) (v w : List ℕ) (s : PageRun) → Added top fits chooses count v w s → Added largest rule choice count v w s
-  added_same count v w s h =
+module _ (R Q : Rule) (s : SameRule R Q) where
+  added_same : (count : ℕ) (v w : List ℕ) (p : PageRun) → Added Q count v w p → Added R count v w p
+  added_same count v w p h =
       record {
         same = h.same;
         some = h.some;
-        most = omega (arith, h.most, tops);
-        fit = (same v count).1 h.fit;
+        most = omega (arith, h.most, s.largest);
+        fit = (s.fits v count).1 h.fit;
         inside = h.inside;
         free = h.free;
-        chosen = (alike v count s.first).1 h.chosen;
+        chosen = (s.chooses v count p.first).1 h.chosen;
         after_is = h.after_is;
       }
 
-  untaken_same : (count : ℕ) (v w : List ℕ) (e : SupplyFault) → NotTaken top fits count v w e → NotTaken largest rule count v w e
+  untaken_same : (count : ℕ) (v w : List ℕ) (e : SupplyFault) → NotTaken Q count v w e → NotTaken R count v w e
   untaken_same count v w e h =
       record {
         kept = h.kept;
         told = h.told;
         none = h.none;
-        above = λ l. h.above (omega (arith, l, tops));
-        unfit = λ a b. let k = h.unfit a (omega (arith, b, tops)) in (k.0, λ f. k.1 ((same v count).0 f));
+        above = λ l. h.above (omega (arith, l, s.largest));
+        unfit = λ a b. let k = h.unfit a (omega (arith, b, s.largest)) in (k.0, λ f. k.1 ((s.fits v count).0 f));
       }
 
-  pub taken_same : (bytes : ℕ) (rs ts : List (Option Run)) (v w : List ℕ) (r : Result Block PoolFault) → Taken top fits chooses bytes rs ts v w r → Taken largest rule choice bytes rs ts v w r
+  pub taken_same : (bytes : ℕ) (rs ts : List (Option Run)) (v w : List ℕ) (r : Result Block PoolFault) → Taken Q bytes rs ts v w r → Taken R bytes rs ts v w r
   taken_same bytes rs ts v w (Ok b) h =
       record {
         shape = h.shape;

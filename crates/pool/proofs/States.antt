@@ -14,8 +14,10 @@ use Rattle.runs.proofs.Laws.{free_lend, clear_within}
 use Rattle.pool.specs.State.{Entry, RunsOut, FirstsDiffer, InUse}
 
 -- the ghost fields of a pool
-abbrev pub State : List (Option Run) → List ℕ → Type 0
-State rs v = RunsOut rs v × (FirstsDiffer rs × (InUse rs × Unit {0}))
+pub record State (rs : List (Option Run)) (v : List ℕ) : Type 0 where
+  pub out : RunsOut rs v
+  pub differ : FirstsDiffer rs
+  pub used : InUse rs
 
 pub none_some : {A : Type 0} (r : A) → None ≡ Some r → ⊥
 none_some r e = let z : ◌≡◌ {A = ℕ} 0 1 = cc in omega arith
@@ -32,7 +34,7 @@ all_none (suc n) (suc k) = all_none n k
 pub state_none : (rs : List (Option Run)) (v : List ℕ) → rs ≡ replicate 128 None → State rs v
 state_none rs v e =
     let none : (x : Entry rs) → ⊥ = λ x. none_some x.1 (sym (ap (λ (xs : List (Option Run)). get_or xs x.0 None) e ∙ all_none 128 x.0) ∙ x.2) in
-    ((λ x. absurd (none x)), ((λ x y d. absurd (none x)), ((λ x. absurd (none x)), tt)))
+    record { out = λ x. absurd (none x); differ = λ x y d. absurd (none x); used = λ x. absurd (none x) }
 
 -- a run stands within the table
 pub entry_within : (rs : List (Option Run)) (i : ℕ) (r : Run) → get_or rs i None ≡ Some r → i < length rs
@@ -59,21 +61,20 @@ module _ (rs : List (Option Run)) (v : List ℕ) (s : State rs v) (i : ℕ) (r t
   was x =
       ⊎_elim
       (λ h. let y : Entry rs = (i, r, here) in (y, h.0, subst (Alike r) (some_same t x.1 h.1) a))
-      (λ h. let y : Entry rs = (x.0, x.1, h.1) in (y, refl, record { first = refl; shape = refl; used = s.1.1.0 y }))
+      (λ h. let y : Entry rs = (x.0, x.1, h.1) in (y, refl, record { first = refl; shape = refl; used = s.used y }))
       (at_index rs i (Some t) x.0 x.1 (entry_within rs i r here) x.2)
 
   pub state_swap : State (set rs i (Some t)) v
-  state_swap = (
-    (λ x.
-        let y = was x in
-        let o = s.0 y.0 in
-        let n = ap (λ z. z.count) y.2.shape in
-        (omega (arith, o.0, n), ap (λ (n : ℕ). get_or v n 0) y.2.first ∙ o.1 ∙ sym n)),
-    (
-      (λ x y e. let p = was x in let q = was y in p.1 ∙ s.1.0 p.0 q.0 (sym p.2.first ∙ e ∙ q.2.first) ∙ sym q.1),
-      ((λ x. (was x).2.used), tt),
-    ),
-  )
+  state_swap =
+      record {
+        out = λ x.
+            let y = was x in
+            let o = s.out y.0 in
+            let n = ap (λ z. z.count) y.2.shape in
+            (omega (arith, o.0, n), ap (λ (n : ℕ). get_or v n 0) y.2.first ∙ o.1 ∙ sym n);
+        differ = λ x y e. let p = was x in let q = was y in p.1 ∙ s.differ p.0 q.0 (sym p.2.first ∙ e ∙ q.2.first) ∙ sym q.1;
+        used = λ x. (was x).2.used;
+      }
 
 -- a loan
 lends_alike : (r t : Run) (n : ℕ) → Lends r (Some n) t → free r < slots_in r.shape → Alike r t
@@ -85,7 +86,7 @@ state_lend class rs ts v None h s = subst (λ (us : List (Option Run)). State us
 state_lend class rs ts v (Some p) h s =
     let k = h.2 in
     subst (λ (us : List (Option Run)). State us v) (sym k.1)
-    (state_swap rs v s p.index p.run k.0 h.1 (lends_alike p.run k.0 p.slot k.2 (s.1.1.0 (p.index, p.run, h.1))))
+    (state_swap rs v s p.index p.run k.0 h.1 (lends_alike p.run k.0 p.slot k.2 (s.used (p.index, p.run, h.1))))
 
 -- the slot lent is one of its run's
 pub lent_within : (class : ℕ) (rs ts : List (Option Run)) (p : Spot) → LendsOf class rs (Some p) ts → p.slot < slots_in p.run.shape
@@ -111,32 +112,28 @@ module _ (rs : List (Option Run)) (v : List ℕ) (s : State rs v) (i : ℕ) (t :
   now_at x =
       ⊎_elim
       (λ h. inl (h.0, some_same t x.1 h.1))
-      (λ h. let y : Entry rs = (x.0, x.1, h.1) in inr (y, refl, refl, λ e. omega (arith, (s.0 y).0, (s.0 y).1, ap (λ (n : ℕ). get_or v n 0) e, z)))
+      (λ h. let y : Entry rs = (x.0, x.1, h.1) in inr (y, refl, refl, λ e. omega (arith, (s.out y).0, (s.out y).1, ap (λ (n : ℕ). get_or v n 0) e, z)))
       (at_index rs i (Some t) x.0 x.1 l x.2)
 
   pub state_begin : 0 < t.shape.count → free t < slots_in t.shape → State (set rs i (Some t)) (set v t.first t.shape.count)
-  state_begin c b = (
-    (λ x.
-        let w = set v t.first t.shape.count in
-        let P : Run → Type 0 = λ r. Out w r.first r.shape.count in
-        ⊎_elim
-        (λ h. subst P h.1 (c, get_or-set_same v t.first t.shape.count 0 k))
-        (λ h. let o = s.0 h.0 in subst P (sym h.2) (o.0, get_or-set_other v t.first h.0.1.first t.shape.count 0 (λ e. h.3 (ap (λ (r : Run). r.first) h.2 ∙ e)) ∙ o.1))
-        (now_at x)),
-    (
-      (λ x y e.
-          ⊎_elim
-          (λ h. ⊎_elim (λ j. h.0 ∙ sym j.0) (λ j. absurd (j.3 (sym e ∙ ap (λ (r : Run). r.first) (sym h.1)))) (now_at y))
-          (λ h.
-          ⊎_elim (λ j. absurd (h.3 (e ∙ ap (λ (r : Run). r.first) (sym j.1))))
-          (λ j. h.1 ∙ s.1.0 h.0 j.0 (ap (λ (r : Run). r.first) (sym h.2) ∙ e ∙ ap (λ (r : Run). r.first) j.2) ∙ sym j.1)
-          (now_at y))
-          (now_at x)),
-      (
-        (λ x.
+  state_begin c b =
+      record {
+        out = λ x.
+            let w = set v t.first t.shape.count in
+            let P : Run → Type 0 = λ r. Out w r.first r.shape.count in
+            ⊎_elim
+            (λ h. subst P h.1 (c, get_or-set_same v t.first t.shape.count 0 k))
+            (λ h. let o = s.out h.0 in subst P (sym h.2) (o.0, get_or-set_other v t.first h.0.1.first t.shape.count 0 (λ e. h.3 (ap (λ (r : Run). r.first) h.2 ∙ e)) ∙ o.1))
+            (now_at x);
+        differ = λ x y e.
+            ⊎_elim
+            (λ h. ⊎_elim (λ j. h.0 ∙ sym j.0) (λ j. absurd (j.3 (sym e ∙ ap (λ (r : Run). r.first) (sym h.1)))) (now_at y))
+            (λ h.
+            ⊎_elim (λ j. absurd (h.3 (e ∙ ap (λ (r : Run). r.first) (sym j.1))))
+            (λ j. h.1 ∙ s.differ h.0 j.0 (ap (λ (r : Run). r.first) (sym h.2) ∙ e ∙ ap (λ (r : Run). r.first) j.2) ∙ sym j.1)
+            (now_at y))
+            (now_at x);
+        used = λ x.
             let P : Run → Type 0 = λ r. free r < slots_in r.shape in
-            ⊎_elim (λ h. subst P h.1 b) (λ h. subst P (sym h.2) (s.1.1.0 h.0)) (now_at x)),
-        tt,
-      ),
-    ),
-  )
+            ⊎_elim (λ h. subst P h.1 b) (λ h. subst P (sym h.2) (s.used h.0)) (now_at x);
+      }

@@ -6,3 +6,4 @@ pub mod Blocks
 pub mod Take
 pub mod Release
 pub mod Parts
+pub mod Model

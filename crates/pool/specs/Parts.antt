@@ -1,5 +1,6 @@
 -- What the parts of `take` and `release` do.
 use Rattle.std.specs.Prelude.{◌≡◌, ℕ, true, false, List, [], ◌∷◌, Some, None, Ok, Err, Option, Result}
+use Rattle.pages.specs.Rule.{Rule}
 use Rattle.runs.specs.declared.run.Run.{Run}
 use Rattle.runs.specs.declared.shape.Shape.{Shape}
 use Rattle.runs.specs.declared.table.Spot.{Spot}
@@ -18,9 +19,9 @@ Lending s rs ts None = NoneServes s.class rs × (ts ≡ rs)
 Lending s rs ts (Some b) = (p : Spot) × Lent s.class rs ts p × (b ≡ block_of p) × (b.size ≡ block_size s)
 
 -- a new run
-abbrev pub Beginning : (largest : ℕ) (fits : List ℕ → ℕ → Type 0) (chooses : List ℕ → ℕ → ℕ → Type 0) (bytes : ℕ) (s : Shape) (rs ts : List (Option Run)) (before after : List ℕ) → Result Block PoolFault → Type 0
-Beginning largest fits chooses bytes s rs ts before after (Ok b) = (p : Spot) × Begun largest fits chooses s rs ts before after p × (b ≡ block_of p)
-Beginning largest fits chooses bytes s rs ts before after (Err e) = (ts ≡ rs) × (after ≡ before) × NotBegun largest fits bytes s.count rs before after e
+abbrev pub Beginning : (R : Rule) (bytes : ℕ) (s : Shape) (rs ts : List (Option Run)) (before after : List ℕ) → Result Block PoolFault → Type 0
+Beginning R bytes s rs ts before after (Ok b) = (p : Spot) × Begun R s rs ts before after p × (b ≡ block_of p)
+Beginning R bytes s rs ts before after (Err e) = (ts ≡ rs) × (after ≡ before) × NotBegun R bytes s.count rs before after e
 
 -- 26 where no slot of the run begins at the offset, 27 where the slot that does is not on loan
 pub record NoneOnLoan (r : Run) (offset : ℕ) (e : PoolFault) : Type 0 where

@@ -1,6 +1,7 @@
 -- What `release` does, over the pool's table of runs and the supply's table of pages before and after the call.
 use Rattle.std.specs.Prelude.{◌≡◌, ℕ, ◌+◌, ◌*◌, ◌<◌, ◌≤◌, true, false, List, [], ◌∷◌, length, is_ok, None, Ok, Err, Option, Result, slice_set}
 use Rattle.classes.specs.Limits.{page_bytes}
+use Rattle.pages.specs.Rule.{Rule}
 use Rattle.pages.specs.Calls.{Removed}
 use Rattle.runs.specs.declared.run.Run.{Run}
 use Rattle.runs.specs.declared.table.Spot.{Spot}
@@ -20,17 +21,17 @@ abbrev pub Begins : Run → (s offset : ℕ) → Type 0
 Begins r s offset = (s < slots_in r.shape) × (run_start r + s * block_size r.shape ≡ offset)
 
 -- the slot is free again; if it was its run's last on loan, the run is gone from the table and given to the supply
-pub record Restored (fits : List ℕ → ℕ → Type 0) (p : Spot) (rs ts : List (Option Run)) (before after : List ℕ) : Type 0 where
+pub record Restored (R : Rule) (p : Spot) (rs ts : List (Option Run)) (before after : List ℕ) : Type 0 where
   pub more : free p.run + 1 < slots_in p.run.shape → RestoresAt rs p.index p.slot ts × (after ≡ before)
-  pub last : free p.run + 1 ≡ slots_in p.run.shape → (ts ≡ slice_set rs p.index None) × Removed fits p.run.first p.run.shape.count before after
+  pub last : free p.run + 1 ≡ slots_in p.run.shape → (ts ≡ slice_set rs p.index None) × Removed R p.run.first p.run.shape.count before after
 
 -- granted: the one slot on loan whose block begins at the offset
-pub record Released (fits : List ℕ → ℕ → Type 0) (rs ts : List (Option Run)) (before after : List ℕ) (offset : ℕ) : Type 0 where
+pub record Released (R : Rule) (rs ts : List (Option Run)) (before after : List ℕ) (offset : ℕ) : Type 0 where
   pub spot : Spot
   pub on_loan : OnLoan rs spot
   pub begins : start_of spot ≡ offset
   pub only : (q : Spot) → OnLoan rs q → start_of q ≡ offset → q ≡ spot
-  pub restored : Restored fits spot rs ts before after
+  pub restored : Restored R spot rs ts before after
 
 -- refused, with all unchanged: 24 past the span, 25 in no run, 26 where no slot begins, 27 where the slot is not on loan
 pub record NotReleased (rs ts : List (Option Run)) (before after : List ℕ) (offset : ℕ) (e : PoolFault) : Type 0 where
@@ -42,9 +43,9 @@ pub record NotReleased (rs ts : List (Option Run)) (before after : List ℕ) (of
   pub idle : (x : Entry rs) (s : ℕ) → Begins x.1 s offset → (is_on_loan x.1 s ≡ false) × Says e 27 (offset ∷ [])
 
 -- what a release does and answers
-abbrev pub Releases : (fits : List ℕ → ℕ → Type 0) (rs ts : List (Option Run)) (before after : List ℕ) (offset : ℕ) → Result (Unit {0}) PoolFault → Type 0
-Releases fits rs ts before after offset (Ok _) = Released fits rs ts before after offset
-Releases fits rs ts before after offset (Err e) = NotReleased rs ts before after offset e
+abbrev pub Releases : (R : Rule) (rs ts : List (Option Run)) (before after : List ℕ) (offset : ℕ) → Result (Unit {0}) PoolFault → Type 0
+Releases R rs ts before after offset (Ok _) = Released R rs ts before after offset
+Releases R rs ts before after offset (Err e) = NotReleased rs ts before after offset e
 
 -- a block on loan that begins at the offset is found
 abbrev pub Found : (rs : List (Option Run)) (offset : ℕ) → Result (Unit {0}) PoolFault → Type 0

@@ -4,6 +4,7 @@ use Rattle.classes.specs.declared.class.Class.{Class}
 use Rattle.classes.specs.Limits.{longest_request}
 use Rattle.classes.specs.Rule.{Smallest}
 use Rattle.pages.specs.declared.fault.SupplyFault.{SupplyFault}
+use Rattle.pages.specs.Rule.{Rule}
 use Rattle.pages.specs.Faults as supply
 use Rattle.pages.specs.Calls.{Added, NotTaken}
 use Rattle.runs.specs.declared.run.Run.{Run}
@@ -29,9 +30,9 @@ Lent None rs ts p = ⊥
 Lent (Some c) rs ts p = LendsOf c.number rs (Some p) ts
 
 -- a run of the shape is taken from the supply and put at the lowest vacant index, with its first slot on loan
-pub record Begun (largest : ℕ) (fits : List ℕ → ℕ → Type 0) (chooses : List ℕ → ℕ → ℕ → Type 0) (s : Shape) (rs ts : List (Option Run)) (before after : List ℕ) (p : Spot) : Type 0 where
+pub record Begun (R : Rule) (s : Shape) (rs ts : List (Option Run)) (before after : List ℕ) (p : Spot) : Type 0 where
   pub lowest : First vacant rs (Some p.index)
-  pub added : Added largest fits chooses s.count before after (record { first = p.run.first; count = s.count })
+  pub added : Added R s.count before after (record { first = p.run.first; count = s.count })
   pub put : ts ≡ slice_set rs p.index (Some p.run)
   pub shape : p.run.shape ≡ s
   pub slots : loans p.run.slots ≡ slice_set (replicate (slots_in s) false) 0 true
@@ -42,36 +43,36 @@ abbrev pub Full : List (Option Run) → Type 0
 Full rs = First vacant rs None
 
 -- no run is begun: 23 where the table is full, else the supply's own refusal; the bytes are told, after its places
-pub record NotBegun (largest : ℕ) (fits : List ℕ → ℕ → Type 0) (bytes count : ℕ) (rs : List (Option Run)) (before after : List ℕ) (e : PoolFault) : Type 0 where
+pub record NotBegun (R : Rule) (bytes count : ℕ) (rs : List (Option Run)) (before after : List ℕ) (e : PoolFault) : Type 0 where
   pub full : Full rs → Says e 23 (bytes ∷ [])
-  pub unsupplied : (Full rs → ⊥) → (f : SupplyFault) × NotTaken largest fits count before after f × Says e (supply.number f) (supply.places f ++ (bytes ∷ []))
+  pub unsupplied : (Full rs → ⊥) → (f : SupplyFault) × NotTaken R count before after f × Says e (supply.number f) (supply.places f ++ (bytes ∷ []))
 
 -- a slot of a run that there is, or, only where none is free, of a new one
-abbrev pub LentOrBegun : (largest : ℕ) (fits : List ℕ → ℕ → Type 0) (chooses : List ℕ → ℕ → ℕ → Type 0) (s : Shape) (rs ts : List (Option Run)) (before after : List ℕ) (p : Spot) → Type 0
-LentOrBegun largest fits chooses s rs ts before after p =
-    (Lent s.class rs ts p × (after ≡ before)) ⊎ (NoneServes s.class rs × Begun largest fits chooses s rs ts before after p)
+abbrev pub LentOrBegun : (R : Rule) (s : Shape) (rs ts : List (Option Run)) (before after : List ℕ) (p : Spot) → Type 0
+LentOrBegun R s rs ts before after p =
+    (Lent s.class rs ts p × (after ≡ before)) ⊎ (NoneServes s.class rs × Begun R s rs ts before after p)
 
 -- granted: the block of that slot, of the request's size
-pub record Granted (largest : ℕ) (fits : List ℕ → ℕ → Type 0) (chooses : List ℕ → ℕ → ℕ → Type 0) (bytes : ℕ) (rs ts : List (Option Run)) (before after : List ℕ) (b : Block) : Type 0 where
+pub record Granted (R : Rule) (bytes : ℕ) (rs ts : List (Option Run)) (before after : List ℕ) (b : Block) : Type 0 where
   pub shape : Shape
   pub asked : ShapeOf bytes shape
   pub spot : Spot
-  pub from : LentOrBegun largest fits chooses shape rs ts before after spot
+  pub from : LentOrBegun R shape rs ts before after spot
   pub block : b ≡ block_of spot
   pub size : b.size ≡ block_size shape
 
 -- refused, with all unchanged: 21 for no bytes, 22 for too many, else where no slot is free and no run is begun
-pub record Refused (largest : ℕ) (fits : List ℕ → ℕ → Type 0) (bytes : ℕ) (rs ts : List (Option Run)) (before after : List ℕ) (e : PoolFault) : Type 0 where
+pub record Refused (R : Rule) (bytes : ℕ) (rs ts : List (Option Run)) (before after : List ℕ) (e : PoolFault) : Type 0 where
   pub runs_kept : ts ≡ rs
   pub pages_kept : after ≡ before
   pub empty : bytes ≡ 0 → Says e 21 (bytes ∷ [])
   pub long : longest_request < bytes → Says e 22 (bytes ∷ [])
-  pub unbegun : 0 < bytes → bytes ≤ longest_request → (s : Shape) × ShapeOf bytes s × NoneServes s.class rs × NotBegun largest fits bytes s.count rs before after e
+  pub unbegun : 0 < bytes → bytes ≤ longest_request → (s : Shape) × ShapeOf bytes s × NoneServes s.class rs × NotBegun R bytes s.count rs before after e
 
 -- what a take does and answers
-abbrev pub Taken : (largest : ℕ) (fits : List ℕ → ℕ → Type 0) (chooses : List ℕ → ℕ → ℕ → Type 0) (bytes : ℕ) (rs ts : List (Option Run)) (before after : List ℕ) → Result Block PoolFault → Type 0
-Taken largest fits chooses bytes rs ts before after (Ok b) = Granted largest fits chooses bytes rs ts before after b
-Taken largest fits chooses bytes rs ts before after (Err e) = Refused largest fits bytes rs ts before after e
+abbrev pub Taken : (R : Rule) (bytes : ℕ) (rs ts : List (Option Run)) (before after : List ℕ) → Result Block PoolFault → Type 0
+Taken R bytes rs ts before after (Ok b) = Granted R bytes rs ts before after b
+Taken R bytes rs ts before after (Err e) = Refused R bytes rs ts before after e
 
 -- a granted take adds its block to those on loan
 abbrev pub AddsBlock : (rs ts : List (Option Run)) → Result Block PoolFault → Type 0

@@ -1,11 +1,12 @@
 //! Why a pool refuses, with the number and the values that each refusal tells.
-ghost use Rattle.std.specs.Prelude.{◌≡◌, [], ◌∷◌, length, take};
+ghost use Rattle.std.specs.Prelude.{◌≡◌};
 ghost use Rattle.pool.specs.Faults.{number, places};
 
+use arrayvec::ArrayVec;
 use pages::fault::SupplyFault;
 
 /// A refusal of `take` or `release`.
-#[derive(Clone, Copy)]
+#[derive(Clone, Copy, Debug, PartialEq, Eq)]
 pub enum PoolFault {
     // 21: a request of 0 bytes
     NoBytes,
@@ -25,12 +26,8 @@ pub enum PoolFault {
     NotOnLoan(u32),
 }
 
-/// The values that a refusal tells, the lowest layer's first: the first `count` of `values`.
-#[derive(Clone, Copy)]
-pub struct Places {
-    pub values: [u32; 2],
-    pub count: usize,
-}
+/// The values that a refusal tells, the lowest layer's first. No layer's refusal tells more than three.
+pub type Places = ArrayVec<u32, 3>;
 
 impl PoolFault {
     /// The refusal's number.
@@ -51,31 +48,22 @@ impl PoolFault {
 
     /// The values that the refusal tells.
     pub fn places(&self) -> Places
-        ensures count { result.count ≡ length (places self.now) }
-        ensures values { take result.count result.values ≡ places self.now }
+        ensures { result.items ≡ places self.now }
     {
+        let mut told = Places::new();
         match self {
-            PoolFault::NoBytes => one(0),
-            PoolFault::TooLong(bytes) => one(*bytes),
-            PoolFault::TableFull(bytes) => one(*bytes),
-            PoolFault::Supply(below, bytes) => Places {
-                values: [below.place(), *bytes],
-                count: 2,
-            },
-            PoolFault::PastSpan(offset) => one(*offset),
-            PoolFault::NoRun(offset) => one(*offset),
-            PoolFault::NoSlot(offset) => one(*offset),
-            PoolFault::NotOnLoan(offset) => one(*offset),
+            PoolFault::NoBytes => told.push(0),
+            PoolFault::Supply(below, bytes) => {
+                told.push(below.place());
+                told.push(*bytes);
+            }
+            PoolFault::TooLong(value)
+            | PoolFault::TableFull(value)
+            | PoolFault::PastSpan(value)
+            | PoolFault::NoRun(value)
+            | PoolFault::NoSlot(value)
+            | PoolFault::NotOnLoan(value) => told.push(*value),
         }
-    }
-}
-
-// One value.
-fn one(value: u32) -> Places
-    ensures { (result.values ≡ value ∷ 0 ∷ []) × (result.count ≡ 1) }
-{
-    Places {
-        values: [value, 0],
-        count: 1,
+        told
     }
 }

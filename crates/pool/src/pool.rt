@@ -2,9 +2,7 @@
 ghost use Rattle.pool.specs.State.{RunsOut, FirstsDiffer, InUse};
 
 use pages::supply::Supply;
-use pages::tracked::Tracked;
 use runs::Runs;
-use view::View;
 
 mod methods;
 mod release;
@@ -12,9 +10,9 @@ mod take;
 
 /// A pool over a supply: the runs that it holds are out of the supply, and each has a block on loan.
 pub struct Pool<S: Supply> {
-    pages: Tracked<S>,
+    supply: S,
     runs: Runs,
-    ghost out: { RunsOut runs.table pages.witness.view },
+    ghost out: { RunsOut runs.table (S.Supply.table supply) },
     ghost differ: { FirstsDiffer runs.table },
     ghost used: { InUse runs.table },
 }

@@ -2,11 +2,12 @@
 use Rattle.std.proofs.Common.{◌≡◌, ℕ, ◌+◌, ◌*◌, ◌<◌, ◌≤◌, Bool, true, false, List, [], ◌∷◌, ◌++◌, length, get_or, set, replicate, is_ok, Some, None, Ok, Err, Option, Result, sym, ap, ◌∙◌, subst, ⊎_elim, zero-mul, arith}
 use Rattle.std.proofs.lemmas.List.{length-set, length-replicate}
 use Rattle.std.proofs.lemmas.Bool.{false≢true}
+use Rattle.pages.specs.Rule.{Rule}
 use Rattle.runs.specs.Bitmap.{clear_in}
 use Rattle.classes.specs.declared.class.Class.{Class}
 use Rattle.classes.specs.Rule.{size_of, slots_of, pages_of, Smallest}
 use Rattle.classes.specs.Long.{LongPages}
-use Rattle.pages.specs.FirstFitRule.{FirstFits, LowestRow}
+use Rattle.pages.specs.FirstFitRule.{first_fit}
 use Rattle.runs.specs.declared.run.Run.{Run}
 use Rattle.runs.specs.declared.shape.Shape.{Shape}
 use Rattle.runs.specs.declared.table.Spot.{Spot}
@@ -70,16 +71,16 @@ cut_of bytes class s small asked =
 
 -- a run begins at the first free page
 module _ (span : ℕ) (e : span ≡ 16) (rs ts : List (Option Run)) (v w : List ℕ) (n : ℕ) (p : Packed v n) (s : Shape) (room : n + s.count ≤ 16) where
-  begun_first : (q : Spot) → Begun span (FirstFits span) (LowestRow span) s rs ts v w q → q.run.first ≡ n
+  begun_first : (q : Spot) → Begun (first_fit span) s rs ts v w q → q.run.first ≡ n
   begun_first q h = packed_next v n p span s.count q.run.first h.added.some (omega arith) h.added.chosen
 
-  begun_start : (q : Spot) (b : Block) → Begun span (FirstFits span) (LowestRow span) s rs ts v w q → b ≡ block_of q → b.offset ≡ n * 512
+  begun_start : (q : Spot) (b : Block) → Begun (first_fit span) s rs ts v w q → b ≡ block_of q → b.offset ≡ n * 512
   begun_start q b h k =
       ap (λ (x : Block). x.offset) k ∙ ap (λ (m : ℕ). q.run.first * 512 + m) (ap (λ (m : ℕ). m * block_size q.run.shape) h.slot ∙ zero-mul (block_size q.run.shape))
       ∙ omega (arith, begun_first q h)
 
   -- it is not refused
-  begun_never : (bytes : ℕ) (f : PoolFault) (ms : List (Option Row)) → Rows rs ms → length ms < length rs → 0 < s.count → NotBegun span (FirstFits span) bytes s.count rs v w f → ⊥
+  begun_never : (bytes : ℕ) (f : PoolFault) (ms : List (Option Row)) → Rows rs ms → length ms < length rs → 0 < s.count → NotBegun (first_fit span) bytes s.count rs v w f → ⊥
   begun_never bytes f ms h few some k =
       let t = k.unsupplied (not_full rs (length ms) few (vacant_past rs ms h)) in
       (t.1.unfit some (omega arith)).1 (packed_fits v n p span s.count some (omega arith))
@@ -87,7 +88,7 @@ module _ (span : ℕ) (e : span ≡ 16) (rs ts : List (Option Run)) (v w : List 
 -- a request of a class that no row serves
 module _ (span : ℕ) (e : span ≡ 16) (bytes class : ℕ) (small : Smallest bytes class) (rs ts : List (Option Run)) (v w : List ℕ) (ms : List (Option Row)) (n : ℕ) (st : Stage rs v ms n)
     (filled : all_some ms ≡ true) (few : length ms < 128) (room : n + pages_of class ≤ 16) (none : (k : ℕ) → serves_row class (get_or ms k None) ≡ false) where
-  pub begin_step : (r : Result Block PoolFault) → Taken span (FirstFits span) (LowestRow span) bytes rs ts v w r
+  pub begin_step : (r : Result Block PoolFault) → Taken (first_fit span) bytes rs ts v w r
       → Went (n * 512) (size_of class) r × (Stage ts w (ms ++ (Some (fresh n class) ∷ [])) (n + pages_of class) × (w ≡ set v n (pages_of class)))
   begin_step (Ok b) h =
       let s = h.shape in
@@ -136,7 +137,7 @@ module _ (span : ℕ) (e : span ≡ 16) (bytes count : ℕ) (long : LongPages by
   own_count : (s : Shape) → ShapeOf bytes s → (s.class ≡ None) × (s.count ≡ count)
   own_count s asked = let k = asked.own long.long in (k.0, omega (arith, k.1.least count long.holds, long.least s.count k.1.holds))
 
-  pub own_step : (r : Result Block PoolFault) → Taken span (FirstFits span) (LowestRow span) bytes rs ts v w r → Went (n * 512) (count * 512) r × (w ≡ set v n count)
+  pub own_step : (r : Result Block PoolFault) → Taken (first_fit span) bytes rs ts v w r → Went (n * 512) (count * 512) r × (w ≡ set v n count)
   own_step (Ok b) h =
       let s = h.shape in
       let q = h.spot in
@@ -155,7 +156,7 @@ module _ (span : ℕ) (e : span ≡ 16) (bytes count : ℕ) (long : LongPages by
       absurd (begun_never span e rs ts v w n st.packed k.0 (omega (arith, room, c.1)) bytes f ms st.rows (omega (arith, few, st.long)) (omega (arith, k.0.paged.0)) k.3)
 
 -- a request of a class of which the row at j is used
-module _ (largest : ℕ) (fits : List ℕ → ℕ → Type 0) (chooses : List ℕ → ℕ → ℕ → Type 0) (bytes class : ℕ) (small : Smallest bytes class) (rs ts : List (Option Run)) (v w : List ℕ) (ms : List (Option Row)) (n : ℕ) (st : Stage rs v ms n)
+module _ (R : Rule) (bytes class : ℕ) (small : Smallest bytes class) (rs ts : List (Option Run)) (v w : List ℕ) (ms : List (Option Row)) (n : ℕ) (st : Stage rs v ms n)
     (j : ℕ) (m : Row) (here : get_or ms j None ≡ Some m) (within : j < length ms) (on : serves_row class (Some m) ≡ true) (strict : (i : ℕ) → (i ≡ j → ⊥) → beaten class m (get_or ms i None) ≡ true) where
   -- some run serves it
   served : (s : Shape) → ShapeOf bytes s → NoneServes s.class rs → ⊥
@@ -166,7 +167,7 @@ module _ (largest : ℕ) (fits : List ℕ → ℕ → Type 0) (chooses : List �
       let a : serves class (get_or rs j None) ≡ true = shows_serves class (get_or rs j None) (get_or ms j None) (st.rows j) ∙ ap (serves_row class) here ∙ on in
       false≢true (sym (k j (entry_within rs j r.0 r.1)) ∙ ap (λ (x : ℕ). serves x (get_or rs j None)) c.number ∙ a)
 
-  pub lend_step : (r : Result Block PoolFault) → Taken largest fits chooses bytes rs ts v w r
+  pub lend_step : (r : Result Block PoolFault) → Taken R bytes rs ts v w r
       → Went (m.first * 512 + low m.lent * size_of class) (size_of class) r × (Stage ts w (set ms j (Some (changed m (low m.lent) true))) n × (w ≡ v))
   lend_step (Ok b) h =
       let s = h.shape in
@@ -212,9 +213,9 @@ module _ (largest : ℕ) (fits : List ℕ → ℕ → Type 0) (chooses : List �
       absurd (served k.0 k.1 k.2)
 
 -- a slot of the row at j comes back, and not its last
-module _ (fits : List ℕ → ℕ → Type 0) (rs ts : List (Option Run)) (v w : List ℕ) (ms : List (Option Row)) (n : ℕ) (st : Stage rs v ms n)
+module _ (R : Rule) (rs ts : List (Option Run)) (v w : List ℕ) (ms : List (Option Row)) (n : ℕ) (st : Stage rs v ms n)
     (j : ℕ) (m : Row) (here : get_or ms j None ≡ Some m) (within : j < length ms) (s : ℕ) (lent : get_or m.lent s false ≡ true) (more : clear_in m.lent + 1 < slots_of m.class) where
-  pub release_step : (offset : ℕ) → offset ≡ m.first * 512 + s * size_of m.class → (r : Result (Unit {0}) PoolFault) → Releases fits rs ts v w offset r → Found rs offset r
+  pub release_step : (offset : ℕ) → offset ≡ m.first * 512 + s * size_of m.class → (r : Result (Unit {0}) PoolFault) → Releases R rs ts v w offset r → Found rs offset r
       → (is_ok r ≡ true) × Stage ts w (set ms j (Some (changed m s false))) n
   release_step offset at r h found =
       let x = at_row rs ms st.rows j m here in
@@ -227,12 +228,12 @@ module _ (fits : List ℕ → ℕ → Type 0) (rs ts : List (Option Run)) (v w :
       let start : start_of q ≡ offset = ap (λ (f : ℕ). f * 512 + s * block_size run.shape) is.first ∙ ap (λ (z : ℕ). m.first * 512 + s * z) size ∙ sym at in
       (found q l start, go q within l start (omega (arith, more, ap clear_in is.slots, slots)) is r h (found q l start))
     where
-      go : (q : Spot) → q.index < length ms → OnLoan rs q → start_of q ≡ offset → free q.run + 1 < slots_in q.run.shape → Is q.run m → (r : Result (Unit {0}) PoolFault) → Releases fits rs ts v w offset r → is_ok r ≡ true
+      go : (q : Spot) → q.index < length ms → OnLoan rs q → start_of q ≡ offset → free q.run + 1 < slots_in q.run.shape → Is q.run m → (r : Result (Unit {0}) PoolFault) → Releases R rs ts v w offset r → is_ok r ≡ true
           → Stage ts w (set ms q.index (Some (changed m q.slot false))) n
       go q low l start some is (Err f) h ok = absurd (false≢true ok)
       go q low l start some is (Ok u) h ok =
           let i = q.index in
-          let back = (subst (λ (p : Spot). Restored fits p rs ts v w) (sym (h.only q l start)) h.restored).more some in
+          let back = (subst (λ (p : Spot). Restored R p rs ts v w) (sym (h.only q l start)) h.restored).more some in
           let k = subst (λ (o : Option Run). RestoresTo o rs i q.slot ts) l.0 back.0 in
           let t = k.0 in
           let e = k.2 in

@@ -6,6 +6,7 @@ use Rattle.runs.specs.Shapes.{ShapeOf}
 use Rattle.pool.specs.declared.block.Block.{Block}
 use Rattle.pool.specs.declared.fault.PoolFault.{PoolFault}
 use Rattle.pool.specs.Blocks.{start_of, OnLoan}
+use Rattle.pool.specs.Model.{PoolModel}
 use Rattle.pool.specs.Take.{Taken}
 use Rattle.pool.specs.Release.{Released, NotReleased}
 
@@ -13,8 +14,9 @@ use Rattle.pool.specs.Release.{Released, NotReleased}
 abbrev pub GrantedAgain : (rs : List (Option Run)) (offset bytes : ℕ) → Result Block PoolFault → Type 0
 GrantedAgain rs offset bytes answer = (p : Spot) → OnLoan rs p → start_of p ≡ offset → ShapeOf bytes p.run.shape → is_ok answer ≡ true
 
--- refused as the release is; or released, and then what the take says of the tables between the two calls
-abbrev pub Again : (largest : ℕ) (fits : List ℕ → ℕ → Type 0) (chooses : List ℕ → ℕ → ℕ → Type 0) (offset bytes : ℕ) (rs ts : List (Option Run)) (before after : List ℕ) → Result Block PoolFault → Type 0
-Again largest fits chooses offset bytes rs ts before after answer =
-    ((e : PoolFault) × (answer ≡ Err e) × NotReleased rs ts before after offset e)
-    ⊎ ((us : List (Option Run)) × (between : List ℕ) × Released fits rs us before between offset × Taken largest fits chooses bytes us ts between after answer)
+-- from the pool m to the pool n: refused as the release is; or released, and then what the take says of the tables between
+-- the two calls
+abbrev pub Again : (m n : PoolModel) (offset bytes : ℕ) → Result Block PoolFault → Type 0
+Again m n offset bytes answer =
+    ((e : PoolFault) × (answer ≡ Err e) × NotReleased m.runs n.runs m.pages n.pages offset e)
+    ⊎ ((us : List (Option Run)) × (between : List ℕ) × Released m.rule m.runs us m.pages between offset × Taken m.rule bytes us n.runs between n.pages answer)

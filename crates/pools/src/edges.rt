@@ -4,10 +4,8 @@ ghost use Rattle.pools.specs.Edges.{Went, AllWent};
 
 use pages::first_fit::FirstFit;
 use pages::supply::Supply;
-use pages::tracked::Tracked;
 use pool::{Block, Pool, PoolFault};
 use runs::Runs;
-use view::View;
 
 /// Over a first fit of 16 pages, blocks for 8, 10, 9 and 2,000 bytes: 9 bytes go beside 10, and 2,000 have a run of their
 /// own. Then 13 pages are out.

@@ -1,105 +1,107 @@
 -- A voice enters, and a voice leaves.
-use Rattle.std.proofs.Common.{◌≡◌, ℕ, length, Ok, Err, Result, sym, refl, ap, ◌∙◌, subst, arith}
+use Rattle.std.proofs.Common.{◌≡◌, ℕ, List, Ok, Err, Result, sym, refl, ap, ◌∙◌, subst, arith}
+use Rattle.pages.specs.declared.supply.Supply.{Ghosts as SupplyGhosts}
+use Rattle.samples.specs.declared.kind.Kind.{Ghosts as KindGhosts}
 use Rattle.rack.specs.declared.fault.RackFault.{RackFault}
 use Rattle.rack.specs.declared.line.Line.{Line}
 use Rattle.rack.specs.declared.state.State.TheVariants as state
-use Rattle.rack.specs.Lines.{line}
-use Rattle.rack.specs.Model.{Model, Rule, SameRule, Coding, Opens, Rings}
-use Rattle.trace.specs.declared.call.Call.TheVariants.{Close}
+use Rattle.rack.specs.Model.{Model, Ticks, Rings, Closes}
 use Rattle.trace.specs.declared.call.Answer.TheVariants.{Done}
-use Rattle.trace.specs.Steps.{heard, Ran}
-use Rattle.trace.proofs.Verdicts.{not_ok, ok_same}
+use Rattle.trace.specs.declared.call.Call.TheVariants.{Close}
+use Rattle.trace.specs.Steps.{heard}
+use Rattle.trace.proofs.Verdicts.{ok_same}
 use Rattle.trace.proofs.Rules.{step_same}
+use Rattle.board.specs.declared.board.Board.{Board}
 use Rattle.board.specs.declared.fault.BoardFault.{BoardFault}
 use Rattle.board.specs.declared.ticket.Declined.{Declined}
 use Rattle.board.specs.declared.ticket.Opened.{Opened}
 use Rattle.board.specs.declared.ticket.Playing.{Playing}
 use Rattle.board.specs.declared.ticket.Ringing.{Ringing}
-use Rattle.board.specs.Calls.{playing, ringing, opened_by, BoardOpens, BoardFeeds, BoardTicks, BoardTaps, BoardRings, BoardCloses}
+use Rattle.board.specs.declared.ticket.Ticket.{Ticket}
+use Rattle.board.specs.Calls.{ticket, BoardOpens, BoardFeeds, BoardTicks, BoardTaps, BoardRings, BoardCloses}
 use Rattle.board.specs.Tickets.{Valid, OnlyLine}
+use Rattle.board.specs.Views.{BoardModel, mark_of, rule_of, coding_of, model_of, seen, SameBoard}
 use Rattle.board.proofs.Admission.{admitted}
-use Rattle.board.proofs.Clients.{only_line, that_line, open_lines_lem, refused_lines, feed_lines, tick_lines, ring_granted, close_granted}
+use Rattle.board.proofs.Clients.{same_boards, only_line, that_line, open_granted, open_declined, open_lines_lem, refused_lines, written_lines, ring_granted, close_granted}
 use Rattle.preset.specs.declared.voice.Voice.{Voice}
-use Rattle.preset.specs.declared.change.Entered.{Entered}
-use Rattle.preset.specs.Change.{refusing}
-use Rattle.preset.specs.Steps.{Enters, Leaves}
+use Rattle.preset.specs.Steps.{Enters, EntersOr, Leaves}
 
-module _ {X : Type 0} (R : Rule) (C : Coding X) (own : ℕ) (v : Voice X) (m : Model) where
-  pub not_entered : (n : Model) (f : RackFault) → BoardOpens R C own m n v.line v.length (Err f) → Ran R C m (refusing v f) n × (n.lines ≡ m.lines)
-  not_entered n f (s, d, law, is) = go s d is
-    where
-      go : (s : Result ℕ RackFault) → Opens R C.wide m v.line v.length s n → ◌≡◌ {A = Result Opened RackFault} (Err f) (opened_by own v.line s) → Ran R C m (refusing v f) n × (n.lines ≡ m.lines)
-      go (Ok o) d is = not_ok f _ is
-      go (Err g) d is =
-          let same : f ≡ g = cc in
-          let opens = subst (λ (x : RackFault). Opens R C.wide m v.line v.length (Err x) n) (sym same) d in
-          ((n, (Err f, opens, refl), refl), refused_lines R C.wide m n v.line v.length f opens)
+pub not_entered : {X : Type 0} (b d : BoardModel X) (v : Voice X) (f : RackFault) → BoardOpens b d v.line v.length (Err f) → EntersOr b d v (Err f)
+not_entered b d v f opens =
+    let h = open_declined b d v.line v.length f opens in
+    ((d.rack, (Err f, h, refl), refl), refused_lines b.rule b.coding.wide b.rack d.rack v.line v.length f h)
 
-  -- opened, fed and tapped: n after the open, z after the feed
-  pub entered : (Q T : Rule) (n z : Model) (o : Opened) (f : Result (Unit {0}) BoardFault) (h : Result X BoardFault) → length m.lines ≡ 64 → length n.lines ≡ 64 → BoardOpens R C own m n v.line v.length (Ok o)
-      → BoardFeeds Q C own n z o.ticket.mark o.ticket.line v.sample f → BoardTaps T C own z o.ticket.mark o.ticket.line 0 h → Enters R C own m z v (record { ticket = o.ticket; heard = h })
-  entered Q T n z o f h many still (s, d, law, is) feeds taps = go s d is
-    where
-      k : ℕ
-      k = v.line
+-- opened, fed and tapped: d after the open, e after the feed
+pub entered : {S K X : Type 0} {supply : SupplyGhosts S} {kind : KindGhosts K X} (b d e : Board S K X supply kind) (memory after : List ℕ) (v : Voice X) (o : Opened) (f : Result (Unit {0}) BoardFault) (h : Result X BoardFault)
+    → SameBoard b d → SameBoard d e → BoardOpens (seen b memory) (seen d memory) v.line v.length (Ok o) → BoardFeeds (seen d memory) (seen e after) o.ticket v.sample f → BoardTaps (seen e after) o.ticket 0 h
+    → Enters (seen b memory) (seen e after) v (record { ticket = o.ticket; heard = h })
+entered b d e memory after v o f h first second opens feeds taps =
+    let k = v.line in
+    let m = seen b memory in
+    let n = seen d memory in
+    let z = seen e after in
+    let mine : Ticket Playing = ticket b.mark k in
+    let granted = open_granted m n k v.length o opens in
+    let fed = admitted n z mine _ (sym first.mark) f (subst (λ (t : Ticket Playing). BoardFeeds n z t v.sample f) granted.0 feeds) in
+    let tap = admitted z z mine _ (sym first.mark ∙ sym second.mark) h (subst (λ (t : Ticket Playing). BoardTaps z t 0 h) granted.0 taps) in
+    let opened = open_lines_lem m.rule m.coding.wide m.rack n.rack k v.length o.offset granted.1 in
+    let that = that_line m.rack n.rack k _ opened.2 (omega (arith, opened.0, b.rack.inner.many)) in
+    let kept = written_lines m.coding.coded m.coding.wide n.rack z.rack k v.sample fed.0 d.rack.inner.many fed.1.0.1 opened.0 in
+    record {
+      how = record { offset = o.offset; fed = fed.0; tapped = tap.0 };
+      ran = (n.rack, (Ok o.offset, granted.1, refl), (z.rack, (fed.0, fed.1.0, refl), (z.rack, (ap heard tap.1.0, refl), refl)));
+      own = granted.0;
+      heard = tap.2;
+      valid = (opened.0, kept.1 ∙ ap (λ (l : Line). l.state) that);
+      was = opened.1;
+      only = λ j ne. kept.0 j ne ∙ only_line m.rack n.rack k _ opened.2 j ne;
+    }
 
-      go : (s : Result ℕ RackFault) → Opens R C.wide m k v.length s n → ◌≡◌ {A = Result Opened RackFault} (Ok o) (opened_by own k s) → Enters R C own m z v (record { ticket = o.ticket; heard = h })
-      go (Err g) d is = not_ok g o (sym is)
-      go (Ok at) d is =
-          let ticket : o.ticket ≡ playing own k = cc in
-          let fed = admitted own own k n _ f z refl (subst (λ (t : Playing). BoardFeeds Q C own n z t.mark t.line v.sample f) ticket feeds) in
-          let tap = admitted own own k z _ h z refl (subst (λ (t : Playing). BoardTaps T C own z t.mark t.line 0 h) ticket taps) in
-          let opened = open_lines_lem R C.wide m n k v.length at d in
-          let that = that_line m n k _ opened.2 (omega (arith, opened.0)) in
-          let kept = feed_lines C.coded C.wide n z k still v.sample fed.0 fed.1.0 opened.0 in
-          record {
-            how = record { offset = at; fed = fed.0; tapped = tap.0 };
-            ran = (n, (Ok at, d, refl), (z, (fed.0, fed.1.0, refl), (z, (ap heard tap.1.0, refl), refl)));
-            ticket = ticket;
-            heard = tap.2;
-            valid = (opened.0, kept.1 ∙ ap (λ (l : Line). l.state) that);
-            was = opened.1;
-            only = λ j ne. kept.0 j ne ∙ only_line m n k _ opened.2 j ne;
-          }
+-- the line of a ticket, which plays, is left to ring, and ticked: d after the ring, e after the tick
+module _ {S K X : Type 0} {supply : SupplyGhosts S} {kind : KindGhosts K X} (b d e : Board S K X supply kind) (memory after : List ℕ) (t : Ticket Playing) (mine : t.mark ≡ mark_of b) (valid : Valid (model_of b memory) t.line state.Playing)
+    (r : Result (Ticket Ringing) (Declined Playing)) (u : Ticket Ringing) (granted : r ≡ Ok u) (first : SameBoard b d) (rings : BoardRings (seen b memory) (seen d memory) t r)
+    (f : Result (Unit {0}) BoardFault) (second : SameBoard d e) (ticks : BoardTicks (seen d memory) (seen e after) u f) where
+  ring : (u ≡ ticket t.mark t.line) × Rings (model_of b memory) t.line (Ok tt) (model_of d memory)
+  ring = let g = ring_granted (seen b memory) (seen d memory) t r mine valid rings in (ok_same u _ (sym granted ∙ g.0), g.1)
 
--- the line of a ticket, which plays, is left to ring, and ticked: n after the ring, z after the tick
-module _ {X : Type 0} (R : Rule) (C : Coding X) (own : ℕ) (m n z : Model) (t : Playing) (mine : t.mark ≡ own) (valid : Valid m t.line state.Playing) (many : length m.lines ≡ 64) (still : length n.lines ≡ 64) where
-  ring_of : (u : Ringing) → BoardRings R C own m n t (Ok u) → (u ≡ ringing own t.line) × Rings m t.line (Ok tt) n
-  ring_of u rings =
-      let ring = ring_granted R C own m n t (Ok u) mine valid rings in
-      let ticket : u ≡ ringing t.mark t.line = ok_same u _ ring.0 in
-      (ticket ∙ ap (λ (x : ℕ). ringing x t.line) mine, ring.1)
+  tick : (s : Result (Unit {0}) RackFault) × Ticks (coding_of d) (model_of d memory) t.line s (model_of e after)
+  tick =
+      let rung : Ticket Ringing = ticket t.mark t.line in
+      let a = admitted (seen d memory) (seen e after) rung _ (mine ∙ sym first.mark) f (subst (λ (x : Ticket Ringing). BoardTicks (seen d memory) (seen e after) x f) ring.0 ticks) in
+      (a.0, a.1.0)
 
-  -- the ringing ticket is the board's own, and valid
-  rung_valid : (Q : Rule) (u : Ringing) (f : Result (Unit {0}) BoardFault) → BoardRings R C own m n t (Ok u) → BoardTicks Q C own n z u.mark u.line f → (u ≡ ringing own t.line) × Valid z t.line state.Ringing
-  rung_valid Q u f rings ticks =
-      let ring = ring_of u rings in
-      let tick = admitted own own t.line n _ f z refl (subst (λ (x : Ringing). BoardTicks Q C own n z x.mark x.line f) ring.0 ticks) in
-      let that = that_line m n t.line _ (ap (λ (x : Model). x.lines) ring.1.1) (omega (arith, valid.0)) in
-      let kept = tick_lines C.coded C.wide n z t.line still C.silent tick.0 tick.1.0 valid.0 in
-      (ring.0, (valid.0, kept.1 ∙ ap (λ (l : Line). l.state) that))
+  -- no other line is changed, and this one rings
+  kept : OnlyLine (model_of d memory) t.line (model_of e after) × Valid (model_of e after) t.line state.Ringing
+  kept =
+      let that = that_line (model_of b memory) (model_of d memory) t.line _ (ap (λ (x : Model). x.lines) ring.1.1) (omega (arith, valid.0, b.rack.inner.many)) in
+      let lines = written_lines kind.coded kind.wide (model_of d memory) (model_of e after) t.line kind.silent tick.0 d.rack.inner.many tick.1.1 valid.0 in
+      (lines.0, (valid.0, lines.1 ∙ ap (λ (l : Line). l.state) that))
 
-  -- so its close cannot be refused
-  pub never_kept : (Q P : Rule) (y : Model) (u : Ringing) (f : Result (Unit {0}) BoardFault) (d : Declined Ringing) → BoardRings R C own m n t (Ok u) → BoardTicks Q C own n z u.mark u.line f → BoardCloses P C own z y u (Err d) → ⊥
-  never_kept Q P y u f d rings ticks closes =
-      let after = rung_valid Q u f rings ticks in
-      let close = close_granted P C own z y (ringing own t.line) (Err d) refl after.1 (subst (λ (x : Ringing). BoardCloses P C own z y x (Err d)) after.0 closes) in
-      not_ok d tt close.0
+  -- so it is closed
+  pub closed : (g : Board S K X supply kind) (c : Result (Unit {0}) (Declined Ringing)) → BoardCloses (seen e after) (seen g after) u c → (c ≡ Ok tt) × Closes (rule_of e) (model_of e after) t.line (Ok tt) (model_of g after)
+  closed g c closes =
+      let rung : Ticket Ringing = ticket t.mark t.line in
+      close_granted (seen e after) (seen g after) rung c (mine ∙ sym first.mark ∙ sym second.mark) kept.1 (subst (λ (x : Ticket Ringing). BoardCloses (seen e after) (seen g after) x c) ring.0 closes)
 
   -- tapped and closed
-  pub left : (Q T P : Rule) (y : Model) (u : Ringing) (f : Result (Unit {0}) BoardFault) (h : Result X BoardFault) (c : Result (Unit {0}) (Declined Ringing)) → SameRule R P → BoardRings R C own m n t (Ok u)
-      → BoardTicks Q C own n z u.mark u.line f → BoardTaps T C own z u.mark u.line 1 h → BoardCloses P C own z y u c → Leaves R C m y t.line h
-  left Q T P y u f h c same rings ticks taps closes =
+  pub left : (g : Board S K X supply kind) (h : Result X BoardFault) (c : Result (Unit {0}) (Declined Ringing)) → BoardTaps (seen e after) u 1 h → BoardCloses (seen e after) (seen g after) u c → Leaves (seen b memory) (seen g after) t.line h
+  left g h c taps closes =
       let k = t.line in
-      let ring = ring_of u rings in
-      let after = rung_valid Q u f rings ticks in
-      let tick = admitted own own k n _ f z refl (subst (λ (x : Ringing). BoardTicks Q C own n z x.mark x.line f) ring.0 ticks) in
-      let tap = admitted own own k z _ h z refl (subst (λ (x : Ringing). BoardTaps T C own z x.mark x.line 1 h) ring.0 taps) in
-      let close = close_granted P C own z y (ringing own k) c refl after.1 (subst (λ (x : Ringing). BoardCloses P C own z y x c) ring.0 closes) in
-      let kept = tick_lines C.coded C.wide n z k still C.silent tick.0 tick.1.0 valid.0 in
+      let rung : Ticket Ringing = ticket t.mark t.line in
+      let tap = admitted (seen e after) (seen e after) rung _ (mine ∙ sym first.mark ∙ sym second.mark) h (subst (λ (x : Ticket Ringing). BoardTaps (seen e after) x 1 h) ring.0 taps) in
+      let close = (closed g c closes).1 in
+      let same = (same_boards b d e first second).rule in
       record {
         how = record { ticked = tick.0; tapped = tap.0 };
-        ran = (n, (Ok tt, ring.1, refl), (z, (tick.0, tick.1.0, refl), (z, (ap heard tap.1.0, refl), (y, step_same R P same C z y (Close k) Done (Ok tt, close.1, refl), refl))));
+        ran = (
+          model_of d memory,
+          (Ok tt, ring.1, refl),
+          (
+            model_of e after,
+            (tick.0, tick.1, refl),
+            (model_of e after, (ap heard tap.1.0, refl), (model_of g after, step_same (rule_of b) (rule_of e) same (coding_of b) (model_of e after) (model_of g after) (Close k) (Ok Done) (Ok tt, close, refl), refl)),
+          ),
+        );
         heard = tap.2;
-        only = λ j ne. only_line z y k _ close.1.1.lines j ne ∙ kept.0 j ne ∙ only_line m n k _ (ap (λ (x : Model). x.lines) ring.1.1) j ne;
+        only = λ j ne. only_line (model_of e after) (model_of g after) k _ close.1.lines j ne ∙ kept.0 j ne ∙ only_line (model_of b memory) (model_of d memory) k _ (ap (λ (x : Model). x.lines) ring.1.1) j ne;
       }

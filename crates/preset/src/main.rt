@@ -11,13 +11,13 @@ use classes::PAGE_BYTES;
 use pages::first_fit::FirstFit;
 use pages::supply::Supply;
 use samples::{Mono, MonoSample};
-use show::{show, show_voice};
 use std::io;
 use voice::Voice;
 
 // The pages of the supply, and the bytes of the sample memory.
 const SPAN: u32 = 16;
 
+// `u32` has no `From` to `usize`, so it is cast.
 const MEMORY: usize = SPAN as usize * PAGE_BYTES as usize;
 
 // The line, the length and the sample of the old voice and of the new one, for each change: two lines; one line for both, and too long a line, which are
@@ -53,11 +53,13 @@ fn main(rt: HostRuntime) -> io::Result<()> {
 fn all(rt: &HostRuntime, board: &mut Board<FirstFit, Mono>, memory: &mut [u8]) -> io::Result<()> {
     for [old, new] in CHANGES {
         let (old, new) = (mono(old), mono(new));
-        show_voice(rt, "old", old)?;
-        show_voice(rt, "new", new)?;
-        show(rt, change(board, memory, old, new))?;
-        let out = board.pages_out();
-        println!(rt; "    pages out: {out}")?;
+        println!(rt; "old voice: {old}")?;
+        println!(rt; "new voice: {new}")?;
+        match change(board, memory, old, new) {
+            Ok(heard) => println!(rt; "{heard}")?,
+            Err(fault) => println!(rt; "    refused by {}", fault.number())?,
+        }
+        println!(rt; "    pages out: {}", board.pages_out())?;
     }
     Ok(())
 }

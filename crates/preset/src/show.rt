@@ -1,43 +1,36 @@
 //! Voices and what is heard of them, in print.
 use crate::voice::{Heard, Voice};
 use board::BoardFault;
-use rack::RackFault;
 use samples::MonoSample;
-use std::io;
+use std::fmt;
 
-/// Prints a voice under a name.
-pub fn show_voice(rt: &HostRuntime, name: &str, voice: Voice<MonoSample>) -> io::Result<()> {
-    let line = voice.line;
-    let length = voice.length;
-    let sample = voice.sample.value();
-    println!(rt; "{name} voice: line {line} of {length}, plays {sample}")
-}
-
-// Prints what a tap answered.
-fn show_tap(rt: &HostRuntime, name: &str, heard: Result<MonoSample, BoardFault>) -> io::Result<()> {
-    match heard {
-        Ok(sample) => {
-            let value = sample.value();
-            println!(rt; "    {name}: {value}")
-        }
-        Err(fault) => {
-            let number = fault.number();
-            println!(rt; "    {name}: refused by {number}")
-        }
+impl fmt::Display for Voice<MonoSample> {
+    fn fmt<W: fmt::Write>(&self, f: &mut fmt::Formatter<W>) -> fmt::Result {
+        write!(
+            f,
+            "line {} of {}, plays {}",
+            self.line, self.length, self.sample
+        )
     }
 }
 
-/// Prints what is heard of a change, or why it was refused.
-pub fn show(rt: &HostRuntime, heard: Result<Heard<MonoSample>, RackFault>) -> io::Result<()> {
-    match heard {
-        Ok(heard) => {
-            show_tap(rt, "the old voice", heard.old)?;
-            show_tap(rt, "the new voice", heard.new)?;
-            show_tap(rt, "the old voice, ringing", heard.rung)
-        }
-        Err(fault) => {
-            let number = fault.number();
-            println!(rt; "    refused by {number}")
+impl fmt::Display for Heard<MonoSample> {
+    fn fmt<W: fmt::Write>(&self, f: &mut fmt::Formatter<W>) -> fmt::Result {
+        writeln!(f, "    the old voice: {}", Tap(self.old))?;
+        writeln!(f, "    the new voice: {}", Tap(self.new))?;
+        write!(f, "    the old voice, ringing: {}", Tap(self.rung))
+    }
+}
+
+// What a tap answered.
+#[derive(Clone, Copy)]
+struct Tap(Result<MonoSample, BoardFault>);
+
+impl fmt::Display for Tap {
+    fn fmt<W: fmt::Write>(&self, f: &mut fmt::Formatter<W>) -> fmt::Result {
+        match self.0 {
+            Ok(sample) => write!(f, "{sample}"),
+            Err(fault) => write!(f, "refused by {}", fault.number()),
         }
     }
 }

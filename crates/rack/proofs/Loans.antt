@@ -1,6 +1,7 @@
 -- How the blocks on loan change with an open and a close.
 use Rattle.std.proofs.Common.{◌≡◌, ℕ, ◌+◌, ◌*◌, ◌<◌, ◌≤◌, List, length, Ok, Err, Option, Result, sym, refl, ap, ◌∙◌, subst, arith}
 use mathlib.Core.Logic.{∥∥₁_map, ∥∥₁_elim}
+use Rattle.pages.specs.Rule.{Rule}
 use Rattle.pages.specs.Table.{Inside, Apart}
 use Rattle.runs.specs.declared.run.Run.{Run}
 use Rattle.runs.proofs.Requests.{size_of_request}
@@ -52,13 +53,13 @@ adds_plain P Q b h = record { keep = λ d x. ∥∥₁_map x (h.keep d); new = �
 
 module _ (f : List (Option Run) → Block → Type 0) (w : ℕ) (ls : List Line) (rs ts : List (Option Run)) (v u : List ℕ) (n : ℕ) (h : n < length ls) (t : Tidy (f rs) w ls) where
   -- the lines after an open that the pool answered
-  pub tidy_opened : (largest : ℕ) (fits : List ℕ → ℕ → Type 0) (chooses : List ℕ → ℕ → ℕ → Type 0) (len : ℕ) (a : Result Block PoolFault) → Taken largest fits chooses (len * w) rs ts v u a
+  pub tidy_opened : (R : Rule) (len : ℕ) (a : Result Block PoolFault) → Taken R (len * w) rs ts v u a
       → ((b : Block) → a ≡ Ok b → AddsOn (f rs) (f ts) b) → used (line ls n).state ≡ 0 → 0 < len → len * w ≤ 130560 → Tidy (f ts) w (open_lines ls n len a)
-  tidy_opened largest fits chooses len (Ok b) k adds free some few =
+  tidy_opened R len (Ok b) k adds free some few =
       let is : b ≡ block_at w (fresh b.offset len) = ap (λ (z : ℕ). at b z) (k.size ∙ size_of_request (len * w) k.shape k.asked) in
       let a = adds b refl in
       tidy_open (f rs) (f ts) w ls n b.offset len h free some few a.keep (subst (f ts) is a.new) a.none t
     where
       at : Block → ℕ → Block
       at b z = record { offset = b.offset; size = z }
-  tidy_opened largest fits chooses len (Err e) k adds free some few = subst (λ (xs : List (Option Run)). Tidy (f xs) w ls) (sym k.runs_kept) t
+  tidy_opened R len (Err e) k adds free some few = subst (λ (xs : List (Option Run)). Tidy (f xs) w ls) (sym k.runs_kept) t

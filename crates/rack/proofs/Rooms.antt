@@ -1,5 +1,5 @@
 -- Where a line's samples lie: within its block, and so within the memory.
-use Rattle.std.proofs.Common.{◌≡◌, ℕ, suc, ◌+◌, ◌-◌, ◌*◌, ◌<◌, ◌≤◌, List, [], ◌∷◌, length, get_or, take, drop, Option, sym, ap, ◌∙◌, subst, mul-le-mul_right, suc-mul, arith}
+use Rattle.std.proofs.Common.{◌≡◌, ℕ, suc, ◌+◌, ◌-◌, ◌*◌, ◌<◌, ◌≤◌, List, length, take, drop, Option, sym, ap, ◌∙◌, subst, mul-le-mul_right, suc-mul, arith}
 use mathlib.Core.Logic.{∥∥₁_elim}
 use native.Mathlib.Bridge.{le_prop}
 use borrow.Rule.Slice.PartMut.{put_mid}
@@ -26,10 +26,6 @@ row p n w h = let k : suc p ≤ n = omega arith in omega (arith, suc-mul p w, mu
 pub patched_mid : (a w k : ℕ) (m bs : List ℕ) → length bs ≡ w → k ≡ w → put_mid a k m bs ≡ patched m a bs
 patched_mid a w k m bs e f = let j : k ≡ length bs = omega arith in rw (j, drop-drop)
 
--- what a witness says of the width
-pub width_is : (w : ℕ) (view out : List ℕ) → view ≡ out → view ≡ w ∷ [] → get_or out 0 0 ≡ w
-width_is w view out e f = ap (λ (l : List ℕ). get_or l 0 0) (sym e ∙ f)
-
 -- the samples of a line fit its block
 pub samples_fit : (w : ℕ) (l : Line) → 0 < l.length → 0 < w → l.length * w ≤ 130560 → l.length * w ≤ block_bytes (l.length * w)
 samples_fit w l some wide short = request_holds (l.length * w) (omega (arith, row 0 l.length w some)) short
@@ -48,21 +44,18 @@ module _ (rs : List (Option Run)) (v : List ℕ) (out : RunsOut rs v) (differ : 
   pub line_room : (w : ℕ) (l : Line) → 0 < l.length → 0 < w → l.length * w ≤ 130560 → BlockOnLoan rs (block_at w l) → l.offset + l.length * w ≤ length v * 512
   line_room w l some wide short b = omega (arith, block_within rs v out differ inside apart (block_at w l) b, samples_fit w l some wide short)
 
-module _ (rs : List (Option Run)) (v : List ℕ) (ls : List Line) (w : ℕ) (h : Housed rs v ls w) (l : Line) (n : ℕ) (same : l ≡ line ls n) (u : InUse l) where
-  use_here : InUse (line ls n)
-  use_here = subst InUse same u
-
+module _ (rs : List (Option Run)) (v : List ℕ) (ls : List Line) (w : ℕ) (h : Housed rs v ls w) (l : Line) (n : ℕ) (same : l ≡ line ls n) (u : InUse (line ls n)) where
   -- each position of a line lies within the memory
   pub position_within : (p : ℕ) → p < l.length → l.offset + p * w + w ≤ length v * 512
   position_within p near =
-      let few : l.length * w ≤ 130560 = subst (λ (x : Line). x.length * w ≤ 130560) (sym same) (h.tidy.short n use_here) in
+      let few : l.length * w ≤ 130560 = subst (λ (x : Line). x.length * w ≤ 130560) (sym same) (h.tidy.short n u) in
       let room : l.offset + l.length * w ≤ length v * 512 =
-      ∥∥₁_elim (h.tidy.lent n use_here) le_prop
+      ∥∥₁_elim (h.tidy.lent n u) le_prop
       (λ b. line_room rs v h.out h.differ h.inside h.apart w l (omega arith) h.wide few (subst (λ (x : Line). BlockOnLoan rs (block_at w x)) (sym same) b)) in
       omega (arith, row p l.length w near, room)
 
   pub next_within : l.next < l.length
-  next_within = subst (λ (x : Line). x.next < x.length) (sym same) (omega (arith, (h.tidy.placed n).0, use_here))
+  next_within = subst (λ (x : Line). x.next < x.length) (sym same) (omega (arith, (h.tidy.placed n).0, u))
 
 -- the bytes of a write at a that ends within the memory
 pub part_written : (a w wide : ℕ) (m out bytes : List ℕ) → w ≡ wide → a + w ≤ length m → length bytes ≡ wide → out ≡ recoded wide bytes (take (a + w - a) (drop a m)) → put_mid a (a + w - a) m out ≡ patched m a bytes

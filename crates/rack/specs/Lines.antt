@@ -49,6 +49,10 @@ place w l p = l.offset + p * w
 abbrev pub patched : (m : List ℕ) (a : ℕ) (bs : List ℕ) → List ℕ
 patched m a bs = take a m ++ (bs ++ drop (a + length bs) m)
 
+-- the memory m with the sample x at the next position of a line
+abbrev pub written : {X : Type 0} → (coded : X → List ℕ) (w : ℕ) (m : List ℕ) → Line → (x : X) → List ℕ
+written coded w m l x = patched m (place w l l.next) (coded x)
+
 -- the w bytes of the memory m from a on
 abbrev pub piece : (m : List ℕ) (a w : ℕ) → List ℕ
 piece m a w = take w (drop a m)

@@ -1,8 +1,7 @@
 -- What a rack and its memory are to a caller, and what each call answers and leaves.
 use Rattle.std.specs.Prelude.{◌≡◌, ℕ, ◌*◌, cond, List, length, replicate, None, Ok, Err, Option, Result, MatchResult, ◌==◌, nat_le, nat_lt, slice_set}
 use Rattle.classes.specs.Limits.{page_bytes, longest_request}
-use Rattle.pages.specs.declared.supply.Supply.{Ghosts}
-use Rattle.pages.specs.Table.{SameFits, SameChoice}
+use Rattle.pages.specs.Rule.{Rule}
 use Rattle.runs.specs.declared.run.Run.{Run}
 use Rattle.runs.specs.Limits.{max_runs}
 use Rattle.pool.specs.declared.block.Block.{Block}
@@ -17,7 +16,7 @@ use Rattle.rack.specs.declared.state.Verb.{Verb}
 use Rattle.rack.specs.declared.state.Verb.TheVariants.{Open, Feed, Tick, Tap, Ring, Close, Kept}
 use Rattle.rack.specs.Limits.{line_count}
 use Rattle.rack.specs.Turns.{turned}
-use Rattle.rack.specs.Lines.{unused, line, fresh, fed, rung, place, patched, tapped}
+use Rattle.rack.specs.Lines.{unused, line, fresh, fed, rung, written, tapped}
 
 -- the lines, the pool's table of runs, the supply's table of pages, and the sample memory
 pub record Model : Type 0 where
@@ -36,22 +35,6 @@ new_model pages memory = model (replicate line_count unused) (replicate max_runs
 -- the same over a supply of so many pages with nothing out
 abbrev pub fresh_model : (span : ℕ) (memory : List ℕ) → Model
 fresh_model span memory = new_model (replicate span 0) memory
-
--- a supply's largest count, which counts fit, and the places that it may choose
-pub record Rule : Type 1 where
-  pub largest : ℕ
-  pub fits : List ℕ → ℕ → Type 0
-  pub chooses : List ℕ → ℕ → ℕ → Type 0
-
--- those of a supply, by what it means
-abbrev pub rule_of : {S : Type 0} → Ghosts S → S → Rule
-rule_of means s = record { largest = means.largest s; fits = means.fits s; chooses = means.chooses s }
-
--- two rules say the same
-pub record SameRule (R Q : Rule) : Type 0 where
-  pub largest : Q.largest ≡ R.largest
-  pub fits : SameFits R.fits Q.fits
-  pub chooses : SameChoice R.chooses Q.chooses
 
 -- how samples stand in memory
 pub record Coding (X : Type 0) : Type 0 where
@@ -100,7 +83,7 @@ open_lines ls k len (Err e) = ls
 
 abbrev pub OpensAs : Rule → (w : ℕ) → Model → (k len : ℕ) → Result State RackFault → Result ℕ RackFault → Model → Type 0
 OpensAs R w m k len (Ok s) r n =
-    (a : Result Block PoolFault) × Taken R.largest R.fits R.chooses (len * w) m.runs n.runs m.pages n.pages a
+    (a : Result Block PoolFault) × Taken R (len * w) m.runs n.runs m.pages n.pages a
     × (r ≡ open_answer k a) × (n.lines ≡ open_lines m.lines k len a) × (n.memory ≡ m.memory)
 OpensAs R w m k len (Err f) r n = (r ≡ Err f) × (n ≡ m)
 
@@ -112,21 +95,25 @@ pub record Written {X : Type 0} (coded : X → List ℕ) (w : ℕ) (m : Model) (
   pub lines : n.lines ≡ slice_set m.lines k (fed (line m.lines k))
   pub runs : n.runs ≡ m.runs
   pub pages : n.pages ≡ m.pages
-  pub memory : n.memory ≡ patched m.memory (place w (line m.lines k) (line m.lines k).next) (coded x)
+  pub memory : n.memory ≡ written coded w m.memory (line m.lines k) x
 
 -- the answer of a call that writes
 abbrev pub write_answer : Verb → Model → (k : ℕ) → Result (Unit {0}) RackFault
 write_answer verb m k = allowed (turns verb m.lines k) (whole m k tt)
 
-abbrev pub Feeds : {X : Type 0} → (coded : X → List ℕ) (w : ℕ) → Model → (k : ℕ) (x : X) → Result (Unit {0}) RackFault → Model → Type 0
-Feeds coded w m k x r n = (r ≡ write_answer Feed m k) × MatchResult r (λ _. Written coded w m k x n) (λ _. n ≡ m)
+-- a call puts the sample x where the line grants it
+abbrev pub Puts : {X : Type 0} → Coding X → Verb → Model → (k : ℕ) (x : X) → Result (Unit {0}) RackFault → Model → Type 0
+Puts C verb m k x r n = (r ≡ write_answer verb m k) × MatchResult r (λ _. Written C.coded C.wide m k x n) (λ _. n ≡ m)
 
-abbrev pub Ticks : {X : Type 0} → (silent : X) (coded : X → List ℕ) (w : ℕ) → Model → (k : ℕ) → Result (Unit {0}) RackFault → Model → Type 0
-Ticks silent coded w m k r n = (r ≡ write_answer Tick m k) × MatchResult r (λ _. Written coded w m k silent n) (λ _. n ≡ m)
+abbrev pub Feeds : {X : Type 0} → Coding X → Model → (k : ℕ) (x : X) → Result (Unit {0}) RackFault → Model → Type 0
+Feeds C = Puts C Feed
 
-abbrev pub tap_answer : {X : Type 0} → (heard : List ℕ → X) (silent : X) (w : ℕ) → Model → (k d : ℕ) → Result X RackFault
-tap_answer heard silent w m k d =
-    allowed (turns Tap m.lines k) (cond (nat_lt d (line m.lines k).length) (whole m k (tapped heard silent w m.memory (line m.lines k) d)) (Err (TooFar k)))
+abbrev pub Ticks : {X : Type 0} → Coding X → Model → (k : ℕ) → Result (Unit {0}) RackFault → Model → Type 0
+Ticks C m k = Puts C Tick m k C.silent
+
+abbrev pub tap_answer : {X : Type 0} → Coding X → Model → (k d : ℕ) → Result X RackFault
+tap_answer C m k d =
+    allowed (turns Tap m.lines k) (cond (nat_lt d (line m.lines k).length) (whole m k (tapped C.heard C.silent C.wide m.memory (line m.lines k) d)) (Err (TooFar k)))
 
 abbrev pub Rings : Model → (k : ℕ) → Result (Unit {0}) RackFault → Model → Type 0
 Rings m k r n =
@@ -136,7 +123,7 @@ Rings m k r n =
 -- the line's block goes back to the pool
 pub record Closed (R : Rule) (m : Model) (k : ℕ) (n : Model) : Type 0 where
   pub lines : n.lines ≡ slice_set m.lines k unused
-  pub released : Released R.fits m.runs n.runs m.pages n.pages (line m.lines k).offset
+  pub released : Released R m.runs n.runs m.pages n.pages (line m.lines k).offset
   pub memory : n.memory ≡ m.memory
 
 abbrev pub Closes : Rule → Model → (k : ℕ) → Result (Unit {0}) RackFault → Model → Type 0

@@ -1,11 +1,11 @@
 //! Why a rack refuses, with the number and the values that each refusal tells.
-ghost use Rattle.std.specs.Prelude.{◌≡◌, [], ◌∷◌, length, take};
+ghost use Rattle.std.specs.Prelude.{◌≡◌};
 ghost use Rattle.rack.specs.Faults.{number, places};
 
-use pool::PoolFault;
+use pool::{Places, PoolFault};
 
 /// A refusal of a rack's call. Each tells its line.
-#[derive(Clone, Copy)]
+#[derive(Clone, Copy, Debug, PartialEq, Eq)]
 pub enum RackFault {
     // 31: no such line
     NoLine(u32),
@@ -29,13 +29,6 @@ pub enum RackFault {
     Pool(PoolFault, u32),
 }
 
-/// The values that a refusal tells, the lowest layer's first: the first `count` of `values`.
-#[derive(Clone, Copy)]
-pub struct Places {
-    pub values: [u32; 3],
-    pub count: usize,
-}
-
 impl RackFault {
     /// The refusal's number.
     pub fn number(&self) -> u32
@@ -55,45 +48,29 @@ impl RackFault {
         }
     }
 
-    /// The values that the refusal tells.
+    /// The values that the refusal tells, the pool's before the line.
     pub fn places(&self) -> Places
-        ensures count { result.count ≡ length (places self.now) }
-        ensures values { take result.count result.values ≡ places self.now }
+        ensures { result.items ≡ places self.now }
     {
         match self {
-            RackFault::NoLine(line) => one(*line),
-            RackFault::NoLength(line) => one(*line),
-            RackFault::TooLong(line) => one(*line),
-            RackFault::InUse(line) => one(*line),
-            RackFault::NotInUse(line) => one(*line),
-            RackFault::IsRinging(line) => one(*line),
-            RackFault::IsPlaying(line) => one(*line),
-            RackFault::TooFar(line) => one(*line),
-            RackFault::WrongMemory(line) => one(*line),
             RackFault::Pool(below, line) => {
-                let told = below.places();
-                if told.count > 1 {
-                    Places {
-                        values: [told.values[0], told.values[1], *line],
-                        count: 3,
-                    }
-                } else {
-                    Places {
-                        values: [told.values[0], *line, 0],
-                        count: 2,
-                    }
-                }
+                let mut told = below.places();
+                told.push(*line);
+                told
+            }
+            RackFault::NoLine(line)
+            | RackFault::NoLength(line)
+            | RackFault::TooLong(line)
+            | RackFault::InUse(line)
+            | RackFault::NotInUse(line)
+            | RackFault::IsRinging(line)
+            | RackFault::IsPlaying(line)
+            | RackFault::TooFar(line)
+            | RackFault::WrongMemory(line) => {
+                let mut told = Places::new();
+                told.push(*line);
+                told
             }
         }
-    }
-}
-
-// One value.
-fn one(value: u32) -> Places
-    ensures { (result.values ≡ value ∷ 0 ∷ 0 ∷ []) × (result.count ≡ 1) }
-{
-    Places {
-        values: [value, 0, 0],
-        count: 1,
     }
 }

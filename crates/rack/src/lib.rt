@@ -1,14 +1,16 @@
-//! A rack of 64 delay lines over one sample memory, which comes with each call that reads or writes samples.
+//! A rack of 64 delay lines over one sample memory, which comes with each call that reads or writes samples: there is no
+//! heap, and a line's block is a place in that memory.
 #![tactic(auto)]
 
 mod fault;
 mod inner;
 mod line;
+mod number;
 mod rack;
 mod state;
 mod verdict;
 
-pub use fault::{Places, RackFault};
+pub use fault::RackFault;
 pub use line::Line;
 pub use rack::Rack;
 pub use state::{State, Verb};

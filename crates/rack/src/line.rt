@@ -3,7 +3,8 @@ use crate::state::State;
 
 mod methods;
 
-/// A line: its state, and, while it is in use, its block and how far it was fed.
+/// A line: its state, and, while it is in use, its block and how far it was fed. The numbers of an unused line are 0: it has
+/// a record too, since `turn` goes by every state.
 #[derive(Clone, Copy)]
 pub struct Line {
     pub(crate) state: State,

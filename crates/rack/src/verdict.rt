@@ -5,7 +5,7 @@ ghost use Rattle.rack.specs.Turns.{turned};
 use crate::fault::RackFault;
 use crate::state::{State, Verb};
 
-/// The state that a call moves a line to, or why it is refused.
+/// The state that a call moves a line to, or why it is refused. One match, so that the whole table is read at one place.
 pub fn turn(state: State, verb: Verb, line: u32) -> Result<State, RackFault>
     ensures { result ≡ turned state verb line }
 {

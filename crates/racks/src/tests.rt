@@ -5,13 +5,11 @@ mod voice;
 use buddy::Buddy;
 use guard::Guard;
 use pages::first_fit::FirstFit;
-use pages::supply::Supply;
 use rack::Rack;
 use samples::{Kind, Mono, MonoSample, Stereo, StereoSample};
 use std::process::Abort;
-use table::{Call, Row, Said, ask, refuses, says, wrong};
-use trace::{Answer, perform};
-use view::View;
+use table::{Call, Outcome, Row, Said, ask, refuses, says, wrong};
+use trace::{Answer, Answered, perform};
 use voice::Voice;
 
 // The bytes of a memory for 16 pages.
@@ -21,20 +19,18 @@ const MEMORY: usize = 16 * 512;
 const NOISE: u8 = 170;
 
 // The first wrong row over a first fit of 16 pages and a whole memory.
-fn wrong_alone<V: Voice + Copy>(voice: V, rows: &[Row]) -> Option<usize> {
-    let (_supply, wrong) = wrong(voice, FirstFit::new(16), &mut [NOISE; MEMORY], rows);
+fn wrong_alone<V: Voice>(voice: V, rows: &[Row]) -> Option<usize> {
+    let mut rack = Rack::new(voice, FirstFit::new(16));
+    let wrong = wrong(&mut rack, voice, &mut [NOISE; MEMORY], rows);
+    rack.into_supply();
     wrong
 }
 
 // The same over a guard page over a buddy of 16 pages.
-fn wrong_guarded<V: Voice + Copy>(voice: V, rows: &[Row]) -> Option<usize> {
-    let (guard, wrong) = wrong(
-        voice,
-        Guard::new(Buddy::new(16)),
-        &mut [NOISE; MEMORY],
-        rows,
-    );
-    let _below = guard.into_below();
+fn wrong_guarded<V: Voice>(voice: V, rows: &[Row]) -> Option<usize> {
+    let mut rack = Rack::new(voice, Guard::new(Buddy::new(16)));
+    let wrong = wrong(&mut rack, voice, &mut [NOISE; MEMORY], rows);
+    rack.into_supply().into_below();
     wrong
 }
 
@@ -132,11 +128,11 @@ fn refuses_memory(rt: &impl Abort, memory: &mut [u8]) {
         says(Call::Close(1), Said::Done),
         says(Call::Out, Said::Count(0)),
     ];
-    let (_supply, wrong) = wrong(Mono, FirstFit::new(16), memory, &rows);
+    let mut rack = Rack::new(Mono, FirstFit::new(16));
+    let wrong = wrong(&mut rack, Mono, memory, &rows);
+    rack.into_supply();
     assert_eq!(rt; wrong, None);
-    for byte in memory.iter() {
-        assert_eq!(rt; *byte, NOISE);
-    }
+    assert!(rt; memory.iter().all(|byte| *byte == NOISE));
 }
 
 #[test]
@@ -230,43 +226,38 @@ fn lines_opened_again_are_silent(rt: HostRuntime) {
 
 // All lines at once, of 1 to 16 samples, each fed 17 samples in turn with the others: whether every line heard its own
 // samples alone and was closed, the pages out before the closes, and those out after.
-fn all_lines<S: Supply, V: Voice + Copy>(
-    voice: V,
-    supply: S,
-    memory: &mut [u8],
-) -> (S, (bool, u32, u32)) {
-    let mut rack = Rack::new(voice, supply);
-    let mut right = true;
-    for line in 0..64u32 {
-        right &= rack.open(line, 1 + line % 16).is_ok();
-    }
-    for round in 0..17u32 {
-        for line in 0..64u32 {
-            let call = Call::Feed(line, (100 * line + round) as i16);
-            right &= ask(&mut rack, voice, memory, call) == Said::Done;
-        }
-    }
-    for line in 0..64u32 {
-        for d in 0..1 + line % 16 {
-            let own = Said::Heard((100 * line + 16 - d) as i16);
-            right &= ask(&mut rack, voice, memory, Call::Tap(line, d)) == own;
-        }
-    }
+fn all_lines<V: Voice>(voice: V, memory: &mut [u8]) -> (bool, u32, u32) {
+    let mut rack = Rack::new(voice, FirstFit::new(64));
+    let opened = (0..64u8).all(|line| {
+        let length = 1 + line % 16;
+        rack.open(u32::from(line), u32::from(length)).is_ok()
+    });
+    let fed = (0..17u8).all(|round| {
+        (0..64u8).all(|line| {
+            let value = 100 * i16::from(line) + i16::from(round);
+            let call = Call::Feed(u32::from(line), value);
+            ask(&mut rack, voice, memory, call) == Ok(Said::Done)
+        })
+    });
+    let heard = (0..64u8).all(|line| {
+        (0..1 + line % 16).all(|d| {
+            let own = Said::Heard(100 * i16::from(line) + 16 - i16::from(d));
+            let call = Call::Tap(u32::from(line), u32::from(d));
+            ask(&mut rack, voice, memory, call) == Ok(own)
+        })
+    });
     let out = rack.pages_out();
-    for line in 0..64u32 {
-        right &= rack.ring(line).is_ok() && rack.close(line).is_ok();
-    }
+    let closed = (0..64).all(|line| rack.ring(line).is_ok() && rack.close(line).is_ok());
     let left = rack.pages_out();
-    (rack.into_supply(), (right, out, left))
+    rack.into_supply();
+    (opened && fed && heard && closed, out, left)
 }
 
 #[test]
 fn all_lines_sound_apart(rt: HostRuntime) {
     let mut memory = [NOISE; 64 * 512];
-    let (_supply, mono) = all_lines(Mono, FirstFit::new(64), &mut memory);
-    assert_eq!(rt; mono, (true, 48, 0));
-    let (_supply, stereo) = all_lines(Stereo, FirstFit::new(64), &mut memory);
-    assert_eq!(rt; stereo, (true, 58, 0));
+    assert_eq!(rt; all_lines(Mono, &mut memory), (true, 48, 0));
+    assert_eq!(rt; all_lines(Stereo, &mut memory), (true, 58, 0));
 }
 
 #[test]
@@ -310,50 +301,40 @@ fn stereo_samples_stand_left_first(rt: HostRuntime) {
 }
 
 // What an answer of a call as a value says.
-fn answered(answer: Answer<MonoSample>) -> Said {
-    match answer {
+fn answered(answer: Answered<MonoSample>) -> Outcome {
+    let said = answer.map(|granted| match granted {
         Answer::Opened { offset } => Said::At(offset),
         Answer::Done => Said::Done,
         Answer::Heard { sample } => Mono.told(sample),
-        Answer::Refused { fault } => Said::Refused(fault.number()),
-    }
-}
-
-// The first call that a new rack over the supply answers otherwise.
-fn performed<S: Supply>(
-    supply: S,
-    memory: &mut [u8],
-    rows: &[(trace::Call<MonoSample>, Said)],
-) -> (S, Option<usize>) {
-    let mut rack = Rack::new(Mono, supply);
-    let mut wrong = None;
-    for (n, (call, answer)) in rows.iter().enumerate() {
-        if wrong.is_none() && answered(perform(&mut rack, memory, *call)) != *answer {
-            wrong = Some(n);
-        }
-    }
-    (rack.into_supply(), wrong)
+    });
+    said.map_err(|fault| fault.number())
 }
 
 #[test]
 fn calls_are_performed(rt: HostRuntime) {
     let sample = MonoSample::new(-7);
     let rows = [
-        (trace::Call::Open { line: 1, length: 2 }, Said::At(0)),
-        (trace::Call::Open { line: 2, length: 4 }, Said::At(8)),
-        (trace::Call::Open { line: 1, length: 2 }, Said::Refused(34)),
-        (trace::Call::Feed { line: 2, sample }, Said::Done),
-        (trace::Call::Tap { line: 2, d: 0 }, Said::Heard(-7)),
-        (trace::Call::Tap { line: 1, d: 0 }, Said::Heard(0)),
-        (trace::Call::Tap { line: 1, d: 2 }, Said::Refused(38)),
-        (trace::Call::Tick { line: 2 }, Said::Refused(37)),
-        (trace::Call::Ring { line: 2 }, Said::Done),
-        (trace::Call::Feed { line: 2, sample }, Said::Refused(36)),
-        (trace::Call::Tick { line: 2 }, Said::Done),
-        (trace::Call::Tap { line: 2, d: 1 }, Said::Heard(-7)),
-        (trace::Call::Close { line: 2 }, Said::Done),
-        (trace::Call::Close { line: 2 }, Said::Refused(35)),
+        (trace::Call::Open { line: 1, length: 2 }, Ok(Said::At(0))),
+        (trace::Call::Open { line: 2, length: 4 }, Ok(Said::At(8))),
+        (trace::Call::Open { line: 1, length: 2 }, Err(34)),
+        (trace::Call::Feed { line: 2, sample }, Ok(Said::Done)),
+        (trace::Call::Tap { line: 2, d: 0 }, Ok(Said::Heard(-7))),
+        (trace::Call::Tap { line: 1, d: 0 }, Ok(Said::Heard(0))),
+        (trace::Call::Tap { line: 1, d: 2 }, Err(38)),
+        (trace::Call::Tick { line: 2 }, Err(37)),
+        (trace::Call::Ring { line: 2 }, Ok(Said::Done)),
+        (trace::Call::Feed { line: 2, sample }, Err(36)),
+        (trace::Call::Tick { line: 2 }, Ok(Said::Done)),
+        (trace::Call::Tap { line: 2, d: 1 }, Ok(Said::Heard(-7))),
+        (trace::Call::Close { line: 2 }, Ok(Said::Done)),
+        (trace::Call::Close { line: 2 }, Err(35)),
     ];
-    let (_supply, wrong) = performed(FirstFit::new(16), &mut [NOISE; MEMORY], &rows);
+    let mut rack = Rack::new(Mono, FirstFit::new(16));
+    let mut memory = [NOISE; MEMORY];
+    let wrong = rows.iter().position(|(call, reply)| {
+        let answer = perform(&mut rack, &mut memory, *call);
+        answered(answer) != *reply
+    });
+    rack.into_supply();
     assert_eq!(rt; wrong, None);
 }

@@ -14,40 +14,46 @@ use rack::Rack;
 use samples::{Mono, Stereo};
 use score::called;
 use show::show;
-use std::alloc::{AllocError, Global};
+use std::fmt::Display;
 use std::io;
-use trace::{Answer, Call, run};
+use trace::{Call, run};
 use voice::Voice;
 
 // The pages of each supply, and the bytes of the sample memory.
 const SPAN: u32 = 16;
 
+// `u32` has no `From` to `usize`, so it is cast.
 const MEMORY: usize = SPAN as usize * PAGE_BYTES as usize;
 
-// The answers of a new rack over a supply, which is handed back.
-fn rehearsed<S: Supply, V: Voice + Copy>(
-    heap: Global,
-    voice: V,
-    supply: S,
+// One rehearsal on a new rack.
+fn rehearsed<S: Supply, V: Voice>(
+    rt: &HostRuntime,
+    rack: &mut Rack<S, V>,
     calls: &[Call<V::Sample>],
-) -> (S, Result<Vec<Answer<V::Sample>>, AllocError>) {
-    let mut rack = Rack::new(voice, supply);
-    let mut memory = [0u8; MEMORY];
-    let answers = run(heap, &mut rack, &mut memory, calls);
-    (rack.into_supply(), answers)
+) -> io::Result<()>
+where
+    V::Sample: Display,
+{
+    let answers = run(rt.alloc(), rack, &mut [0; MEMORY], calls)?;
+    show(rt, &answers)
 }
 
-// One rehearsal over each supply.
-fn rehearse<V: Voice + Copy>(rt: &HostRuntime, name: &str, voice: V) -> io::Result<()> {
-    let heap = rt.alloc();
-    let calls = called(heap, voice)?;
+// One over each supply.
+fn rehearse<V: Voice>(rt: &HostRuntime, name: &str, voice: V) -> io::Result<()>
+where
+    V::Sample: Display,
+{
+    let calls = called(rt.alloc(), voice)?;
     println!(rt; "{name} over first fit")?;
-    let (_, answers) = rehearsed(heap, voice, FirstFit::new(SPAN), calls.as_slice());
-    show(rt, voice, answers?.as_slice())?;
+    let mut rack = Rack::new(voice, FirstFit::new(SPAN));
+    let shown = rehearsed(rt, &mut rack, &calls);
+    rack.into_supply();
+    shown?;
     println!(rt; "{name} over a guard page over buddy")?;
-    let (guarded, answers) = rehearsed(heap, voice, Guard::new(Buddy::new(SPAN)), calls.as_slice());
-    let _below = guarded.into_below();
-    show(rt, voice, answers?.as_slice())
+    let mut rack = Rack::new(voice, Guard::new(Buddy::new(SPAN)));
+    let shown = rehearsed(rt, &mut rack, &calls);
+    rack.into_supply().into_below();
+    shown
 }
 
 fn main(rt: HostRuntime) -> io::Result<()> {

@@ -56,20 +56,21 @@ pub const SCORE: [Call<i16>; 24] = [
 ];
 
 /// The calls with samples of a voice.
-pub fn called<V: Voice + Copy>(heap: Global, voice: V) -> Result<Vec<Call<V::Sample>>, AllocError> {
-    let mut calls = Vec::new(heap);
-    for call in SCORE.iter() {
-        calls.push(match *call {
-            Call::Open { line, length } => Call::Open { line, length },
-            Call::Feed { line, sample } => Call::Feed {
-                line,
-                sample: voice.sample(sample),
-            },
-            Call::Tick { line } => Call::Tick { line },
-            Call::Tap { line, d } => Call::Tap { line, d },
-            Call::Ring { line } => Call::Ring { line },
-            Call::Close { line } => Call::Close { line },
-        })?;
+pub fn called<V: Voice>(heap: Global, voice: V) -> Result<Vec<Call<V::Sample>>, AllocError> {
+    SCORE.iter().map(|call| voiced(voice, *call)).collect(heap)
+}
+
+// A `map` of calls over a closure would be a public function that asks something of the closure.
+fn voiced<V: Voice>(voice: V, call: Call<i16>) -> Call<V::Sample> {
+    match call {
+        Call::Open { line, length } => Call::Open { line, length },
+        Call::Feed { line, sample } => Call::Feed {
+            line,
+            sample: voice.sample(sample),
+        },
+        Call::Tick { line } => Call::Tick { line },
+        Call::Tap { line, d } => Call::Tap { line, d },
+        Call::Ring { line } => Call::Ring { line },
+        Call::Close { line } => Call::Close { line },
     }
-    Ok(calls)
 }

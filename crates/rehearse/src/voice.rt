@@ -1,22 +1,14 @@
-//! Kinds of sample that a number can be played in, and that can be printed.
+//! Kinds of sample that a number can be played in.
 use samples::{Kind, Mono, MonoSample, Stereo, StereoSample};
-use std::io;
 
-pub trait Voice: Kind {
+pub trait Voice: Kind + Copy {
     /// The sample that stands for a number.
     fn sample(&self, value: i16) -> Self::Sample;
-
-    fn print(&self, rt: &HostRuntime, sample: Self::Sample) -> io::Result<()>;
 }
 
 impl Voice for Mono {
     fn sample(&self, value: i16) -> MonoSample {
         MonoSample::new(value)
-    }
-
-    fn print(&self, rt: &HostRuntime, sample: MonoSample) -> io::Result<()> {
-        let value = sample.value();
-        println!(rt; "{value}")
     }
 }
 
@@ -27,11 +19,5 @@ impl Voice for Stereo {
             left: MonoSample::new(value),
             right: MonoSample::new(value.saturating_sub(1)),
         }
-    }
-
-    fn print(&self, rt: &HostRuntime, sample: StereoSample) -> io::Result<()> {
-        let left = sample.left.value();
-        let right = sample.right.value();
-        println!(rt; "{left} {right}")
     }
 }

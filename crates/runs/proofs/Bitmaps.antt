@@ -1,14 +1,15 @@
 -- The list of bits that a row of words stands for.
-use Rattle.std.proofs.Common.{◌≡◌, ℕ, zero, suc, ◌+◌, ◌-◌, ◌*◌, ◌/◌, ◌%◌, ◌^◌, ◌<◌, ◌≤◌, Bool, true, false, cond, not, eqb, ◌≢◌, ◌⊎◌, List, [], ◌∷◌, length, get_or, set, replicate, Some, None, sym, refl, ap, ◌∙◌, inl, inr, arith}
-use lib.Bits.{bit_and, bit_or, or_zero_r, and_zero_r}
-use lib.Count.{count_trailing_zeros}
-use Rattle.std.proofs.lemmas.Nat.{and_mask, one_shl, pow_below, shr_le}
+use Rattle.std.proofs.Common.{bit_and, bit_or, w32, ◌≡◌, ℕ, suc, ◌+◌, ◌-◌, ◌*◌, ◌/◌, ◌%◌, ◌^◌, ◌<◌, ◌≤◌, Bool, true, false, cond, not, eqb, ltb, ◌≢◌, ◌⊎◌, List, [], ◌∷◌, length, get_or, set, replicate, None, sym, refl, ap, ◌∙◌, inl, inr, arith}
+use Rattle.std.specs.Bool.{then_some}
+use Rattle.std.specs.Int.{trailing_ones}
+use Rattle.std.proofs.lemmas.Nat.Bits.{shr_and_one, bit_at-zero, bit_at_ones, bit_at-trailing_ones, bit_at_set_same, bit_at_set_other, bit_at_clear_same, bit_at_clear_other}
 use Rattle.std.proofs.lemmas.List.FromFn.{length-map-range_with_len, get_or-map-range_with_len}
-use Rattle.std.proofs.lemmas.List.{same_lists, length-set, get_or-set_same, get_or-set_other, length-replicate, get_or-replicate, get_or_past, set-get_or}
+use Rattle.std.proofs.lemmas.List.{same_lists, length-replicate, get_or-replicate, get_or_past}
+use Rattle.std.proofs.lemmas.List.Folds.{sum_by-replicate}
 use Rattle.std.proofs.lemmas.List.Sums.{sum_by-set, sum_by-cons, count_by-le-length}
-use Rattle.std.proofs.lemmas.Bool.{cases_eq, cases_lt, false≢true, eq-eqb, ne_eqb}
+use Rattle.std.proofs.lemmas.Bool.{cases_eq, cases_lt, false≢true, lt-ltb, le-ltb}
+use Rattle.std.proofs.lemmas.Grind.{common_steps}
 use Rattle.runs.specs.Bitmap.{digit, bit, bits, clear_in, Lowest}
-use Rattle.runs.proofs.Digits.{or_at, and_at, not_at, pow_same, pow_other, or_one, and_one, trailing_below, trailing_at, trailing_full}
 
 pub length_bits : (ws : List ℕ) (n : ℕ) → length (bits ws n) ≡ n
 unfolding bits
@@ -19,85 +20,44 @@ unfolding bits
 get_d_bits ws n k d h = get_or-map-range_with_len (bit ws) 0 n k k d h (omega arith)
 
 -- the bit of slot s, as the code reads it
-pub bit_read : (ws : List ℕ) (s : ℕ) → eqb (bit_and (get_or ws (s / 32) 0 / 2 ^ bit_and s 31) 1) 1 ≡ bit ws s
+pub bit_read : (ws : List ℕ) (s : ℕ) → eqb (bit_and (get_or ws (s / 32) 0 / 2 ^ (s % 32)) 1) 1 ≡ bit ws s
 unfolding bit
-bit_read ws s =
-    ap (λ (x : ℕ). eqb x 1) (and_mask (get_or ws (s / 32) 0 / 2 ^ bit_and s 31) 1)
-    ∙ ap (λ (x : ℕ). digit (get_or ws (s / 32) 0) x) (and_mask s 5)
+bit_read ws s = ap (λ (x : ℕ). eqb x 1) (shr_and_one (get_or ws (s / 32) 0) (s % 32))
 
 -- one word changes in one digit
 pub bits_set : (ws : List ℕ) (n s w : ℕ) (v : Bool) → s / 32 < length ws → s < n → digit w (s % 32) ≡ v
     → ((j : ℕ) → j < 32 → j ≢ s % 32 → digit w j ≡ digit (get_or ws (s / 32) 0) j)
     → bits (set ws (s / 32) w) n ≡ set (bits ws n) s v
 unfolding bit
-bits_set ws n s w v in_words_lem in-bits here others =
-    same_lists _ _ (length_bits (set ws (s / 32) w) n ∙ sym (length-set (bits ws n) s v ∙ length_bits ws n)) each
+bits_set ws n s w v l h here others =
+    same_lists _ _ (grind (arith, common_steps, length_bits))
+    (λ k d m.
+    let in_bits : k < n = omega (arith, length_bits (set ws (s / 32) w) n) in
+    get_d_bits (set ws (s / 32) w) n k d in_bits ∙ at k d in_bits (cases_eq k s) (cases_eq (k / 32) (s / 32)))
   where
-    at : (k : ℕ) → (k ≡ s) ⊎ (k ≡ s → ⊥) → (k / 32 ≡ s / 32) ⊎ (k / 32 ≡ s / 32 → ⊥) → (d : Bool) → k < n
-        → bit (set ws (s / 32) w) k ≡ get_or (set (bits ws n) s v) k d
-    at k (inl e) b d h =
-        ap (bit (set ws (s / 32) w)) e
-        ∙ ap (λ (x : ℕ). digit x (s % 32)) (get_or-set_same ws (s / 32) w 0 in_words_lem) ∙ here
-        ∙ sym (ap (λ (x : ℕ). get_or (set (bits ws n) s v) x d) e ∙ get_or-set_same (bits ws n) s v d (omega (arith, length_bits ws n)))
-    at k (inr ne) (inl e) d h =
+    at : (k : ℕ) (d : Bool) → k < n → (k ≡ s) ⊎ (k ≢ s) → (k / 32 ≡ s / 32) ⊎ (k / 32 ≢ s / 32) → bit (set ws (s / 32) w) k ≡ get_or (set (bits ws n) s v) k d
+    at k d m (inl e) b = rw e (grind (arith, common_steps, length_bits, here))
+    at k d m (inr ne) (inl e) =
         let apart : k % 32 ≢ s % 32 = λ q. ne (omega arith) in
-        ap (λ (x : ℕ). digit (get_or (set ws (s / 32) w) x 0) (k % 32)) e
-        ∙ ap (λ (x : ℕ). digit x (k % 32)) (get_or-set_same ws (s / 32) w 0 in_words_lem) ∙ others (k % 32) (omega arith) apart
-        ∙ sym (get_or-set_other (bits ws n) s k v d ne ∙ get_d_bits ws n k d h ∙ ap (λ (x : ℕ). digit (get_or ws x 0) (k % 32)) e)
-    at k (inr ne) (inr far) d h =
-        ap (λ (x : ℕ). digit x (k % 32)) (get_or-set_other ws (s / 32) (k / 32) w 0 far)
-        ∙ sym (get_or-set_other (bits ws n) s k v d ne ∙ get_d_bits ws n k d h)
+        let same = others (k % 32) (omega arith) apart in
+        grind (arith, common_steps, get_d_bits, same)
+    at k d m (inr ne) (inr far) = grind (arith, common_steps, get_d_bits)
 
-    each : (k : ℕ) (d : Bool) → k < length (bits (set ws (s / 32) w) n) → get_or (bits (set ws (s / 32) w) n) k d ≡ get_or (set (bits ws n) s v) k d
-    each k d h =
-        let l : k < n = omega (arith, length_bits (set ws (s / 32) w) n) in
-        get_d_bits (set ws (s / 32) w) n k d l ∙ at k (cases_eq k s) (cases_eq (k / 32) (s / 32)) d l
-
--- `ws[s >> 5] |= 1 << (s & 31)`
+-- `ws[s / 32] |= 1 << (s % 32)`
 pub bits_or : (ws : List ℕ) (n s : ℕ) → s / 32 < length ws → s < n
-    → bits (set ws (s / 32) (bit_or (get_or ws (s / 32) 0) ((1 * 2 ^ bit_and s 31) % 2 ^ 32))) n ≡ set (bits ws n) s true
-bits_or ws n s in_words_lem in-bits =
-    ap (λ (m : ℕ). bits (set ws (s / 32) (bit_or old m)) n) mask ∙ bits_set ws n s (bit_or old (2 ^ (s % 32))) true in_words_lem in-bits here others
-  where
-    old : ℕ
-    old = get_or ws (s / 32) 0
+    → bits (set ws (s / 32) (bit_or (get_or ws (s / 32) 0) (1 * 2 ^ (s % 32) % 2 ^ 32))) n ≡ set (bits ws n) s true
+bits_or ws n s l h =
+    let w = get_or ws (s / 32) 0 in
+    bits_set ws n s _ true l h (ap (λ (x : ℕ). eqb x 1) (bit_at_set_same w32 w (s % 32) (omega arith)))
+    (λ j _ ne. ap (λ (x : ℕ). eqb x 1) (bit_at_set_other w32 w (s % 32) (omega arith) j ne))
 
-    mask : (1 * 2 ^ bit_and s 31) % 2 ^ 32 ≡ 2 ^ (s % 32)
-    mask = ap (λ (x : ℕ). (1 * 2 ^ x) % 2 ^ 32) (and_mask s 5) ∙ one_shl (s % 32) 32 (omega arith)
-
-    here : digit (bit_or old (2 ^ (s % 32))) (s % 32) ≡ true
-    here = ap (λ (x : ℕ). eqb x 1) (or_at old (2 ^ (s % 32)) (s % 32) ∙ ap (bit_or (old / 2 ^ (s % 32) % 2)) (pow_same (s % 32)) ∙ or_one (old / 2 ^ (s % 32) % 2) (omega arith))
-
-    others : (j : ℕ) → j < 32 → j ≢ s % 32 → digit (bit_or old (2 ^ (s % 32))) j ≡ digit old j
-    others j l ne = ap (λ (x : ℕ). eqb x 1) (or_at old (2 ^ (s % 32)) j ∙ ap (bit_or (old / 2 ^ j % 2)) (pow_other (s % 32) j ne) ∙ or_zero_r (old / 2 ^ j % 2))
-
--- `ws[s >> 5] &= !(1 << (s & 31))`
+-- `ws[s / 32] &= !(1 << (s % 32))`
 pub bits_and_not : (ws : List ℕ) (n s : ℕ) → s / 32 < length ws → s < n
-    → bits (set ws (s / 32) (bit_and (get_or ws (s / 32) 0) (2 ^ 32 - 1 - (1 * 2 ^ bit_and s 31) % 2 ^ 32))) n ≡ set (bits ws n) s false
-bits_and_not ws n s in_words_lem in-bits =
-    ap (λ (m : ℕ). bits (set ws (s / 32) (bit_and old (2 ^ 32 - 1 - m))) n) mask
-    ∙ bits_set ws n s (bit_and old (2 ^ 32 - 1 - 2 ^ (s % 32))) false in_words_lem in-bits here others
-  where
-    old : ℕ
-    old = get_or ws (s / 32) 0
-
-    mask : (1 * 2 ^ bit_and s 31) % 2 ^ 32 ≡ 2 ^ (s % 32)
-    mask = ap (λ (x : ℕ). (1 * 2 ^ x) % 2 ^ 32) (and_mask s 5) ∙ one_shl (s % 32) 32 (omega arith)
-
-    at : (j : ℕ) → j < 32 → bit_and old (2 ^ 32 - 1 - 2 ^ (s % 32)) / 2 ^ j % 2 ≡ bit_and (old / 2 ^ j % 2) (1 - 2 ^ (s % 32) / 2 ^ j % 2)
-    at j l =
-        and_at old (2 ^ 32 - 1 - 2 ^ (s % 32)) j
-        ∙ ap (bit_and (old / 2 ^ j % 2)) (not_at 32 j (2 ^ (s % 32)) (pow_below (s % 32) 32 (omega arith)) l)
-
-    here : digit (bit_and old (2 ^ 32 - 1 - 2 ^ (s % 32))) (s % 32) ≡ false
-    here =
-        ap (λ (x : ℕ). eqb x 1)
-        (at (s % 32) (omega arith) ∙ ap (λ (x : ℕ). bit_and (old / 2 ^ (s % 32) % 2) (1 - x)) (pow_same (s % 32)) ∙ and_zero_r (old / 2 ^ (s % 32) % 2))
-
-    others : (j : ℕ) → j < 32 → j ≢ s % 32 → digit (bit_and old (2 ^ 32 - 1 - 2 ^ (s % 32))) j ≡ digit old j
-    others j l ne =
-        ap (λ (x : ℕ). eqb x 1)
-        (at j l ∙ ap (λ (x : ℕ). bit_and (old / 2 ^ j % 2) (1 - x)) (pow_other (s % 32) j ne) ∙ and_one (old / 2 ^ j % 2) (omega arith))
+    → bits (set ws (s / 32) (bit_and (get_or ws (s / 32) 0) (2 ^ 32 - 1 - 1 * 2 ^ (s % 32) % 2 ^ 32))) n ≡ set (bits ws n) s false
+bits_and_not ws n s l h =
+    let w = get_or ws (s / 32) 0 in
+    bits_set ws n s _ false l h (ap (λ (x : ℕ). eqb x 1) (bit_at_clear_same w32 w (s % 32) (omega arith)))
+    (λ j k ne. ap (λ (x : ℕ). eqb x 1) (bit_at_clear_other w32 w (s % 32) (omega arith) j k ne))
 
 -- words of zeros
 pub bits_zeros : (m n : ℕ) → bits (replicate m 0) n ≡ replicate n false
@@ -107,18 +67,21 @@ bits_zeros m n =
     (λ k d h.
     let l : k < n = omega (arith, length_bits (replicate m 0) n) in
     get_d_bits (replicate m 0) n k d l ∙ ap (λ (x : ℕ). digit x (k % 32)) (word (k / 32) (cases_lt (k / 32) m))
-    ∙ ap (λ (x : ℕ). eqb x 1) (let z : ◌≡◌ {A = ℕ} (0 / 2 ^ (k % 32)) 0 = omega (arith, shr_le 0 (k % 32)) in ap (λ (x : ℕ). x % 2) z) ∙ sym (get_or-replicate n k false d l))
+    ∙ ap (λ (x : ℕ). eqb x 1) (bit_at-zero (k % 32)) ∙ sym (get_or-replicate n k false d l))
   where
     word : (j : ℕ) → (j < m) ⊎ (m ≤ j) → ◌≡◌ {A = ℕ} (get_or (replicate m 0) j 0) 0
     word j (inl h) = get_or-replicate m j 0 0 h
     word j (inr h) = get_or_past (replicate m 0) j 0 (omega (arith, length-replicate {A = ℕ} m 0))
 
+-- the words of a new bitmap
+pub bits_new : (n : ℕ) → bits (0 ∷ 0 ∷ 0 ∷ 0 ∷ 0 ∷ 0 ∷ 0 ∷ 0 ∷ []) n ≡ replicate n false
+bits_new n = bits_zeros 8 n
+
 -- ---- how many bits are clear
 
 pub clear_in_none : (n : ℕ) → clear_in (replicate n false) ≡ n
 unfolding clear_in
-clear_in_none zero = refl
-clear_in_none (suc n) = sum_by-cons (λ b. cond (not b) 1 0) false (replicate n false) ∙ omega (arith, clear_in_none n)
+clear_in_none n = omega (arith, sum_by-replicate (λ b. cond (not b) 1 0) n false)
 
 pub clear_in_le : (bs : List Bool) → clear_in bs ≤ length bs
 unfolding clear_in
@@ -144,78 +107,55 @@ set_within bs s e = go (cases_lt s (length bs))
     go (inl h) = h
     go (inr h) = absurd (false≢true (sym (get_or_past bs s false h) ∙ e))
 
--- a bit that has the value already
-pub set_same : (bs : List Bool) (s : ℕ) (v d : Bool) → get_or bs s d ≡ v → bs ≡ set bs s v
-set_same bs s v d e = sym (ap (set bs s) (sym e) ∙ set-get_or bs s d)
-
 -- ---- the lowest clear bit
 
--- a word with all its digits set
-pub digit_full : (j : ℕ) → j < 32 → digit (2 ^ 32 - 1) j ≡ true
-digit_full j l = eq-eqb ((2 ^ 32 - 1) / 2 ^ j % 2) 1 (omega (arith, not_at 32 j 0 (omega arith) l, shr_le 0 j))
-
--- the lowest clear digit of a word that is not full
-pub record Gap (w t : ℕ) : Type 0 where
-  pub inside : t < 32
-  pub empty : digit w t ≡ false
-  pub shut : (j : ℕ) → j < t → digit w j ≡ true
-
-pub gap : (w : ℕ) → w < 2 ^ 32 → (w ≡ 2 ^ 32 - 1 → ⊥) → Gap w (count_trailing_zeros 32 (2 ^ 32 - 1 - w))
-gap w l ne = record {
-  inside = inside;
-  empty = ne_eqb (w / 2 ^ t % 2) 1 (omega (arith, not_at 32 t w l inside, trailing_at 32 (2 ^ 32 - 1 - w) inside));
-  shut = λ j h. eq-eqb (w / 2 ^ j % 2) 1 (omega (arith, not_at 32 j w l (omega (arith, inside)), trailing_below 32 (2 ^ 32 - 1 - w) j h));
-}
+none_below : (ws : List ℕ) (n m : ℕ) → n ≤ m → ((k : ℕ) → k < m → bit ws k ≡ true) → Lowest (bits ws n) None
+none_below ws n m h below k = by (cases_lt k n)
   where
-    t : ℕ
-    t = count_trailing_zeros 32 (2 ^ 32 - 1 - w)
+    by : (k < n) ⊎ (n ≤ k) → get_or (bits ws n) k true ≡ true
+    by (inl l) = get_d_bits ws n k true l ∙ below k (omega arith)
+    by (inr l) = get_or_past (bits ws n) k true (omega (arith, length_bits ws n))
 
-    inside : t < 32
-    inside = go (cases_lt t 32)
+-- the first i words are full
+module _ (ws : List ℕ) (n i : ℕ) (full : (j : ℕ) → j < i → get_or ws j 0 ≡ 2 ^ 32 - 1) where
+  set_before : (k : ℕ) → k < 32 * i → bit ws k ≡ true
+  unfolding bit
+  set_before k h = ap (λ (x : ℕ). digit x (k % 32)) (full (k / 32) (omega arith)) ∙ ap (λ (x : ℕ). eqb x 1) (bit_at_ones 32 (k % 32) (omega arith))
+
+  -- so is the whole list
+  pub lowest_none : n ≤ 32 * i → Lowest (bits ws n) None
+  lowest_none h = none_below ws n (32 * i) h set_before
+
+  -- the next is not
+  module _ (fits : get_or ws i 0 < 2 ^ 32) (gap : get_or ws i 0 ≢ 2 ^ 32 - 1) where
+    abbrev pub lowest : ℕ
+    lowest = i * 32 + trailing_ones w32 (get_or ws i 0)
+
+    word : (j : ℕ) → j < 32 → bit ws (i * 32 + j) ≡ digit (get_or ws i 0) j
+    unfolding bit
+    word j h =
+        let row : (i * 32 + j) / 32 ≡ i = omega arith in
+        let col : (i * 32 + j) % 32 ≡ j = omega arith in
+        rw (row, col) refl
+
+    set_below : (k : ℕ) → k < lowest → bit ws k ≡ true
+    set_below k h = by (cases_lt k (32 * i))
       where
-        go : (t < 32) ⊎ (32 ≤ t) → t < 32
-        go (inl h) = h
-        go (inr h) = absurd (ne (omega (arith, trailing_full 32 (2 ^ 32 - 1 - w) (omega arith) h)))
+        by : (k < 32 * i) ⊎ (32 * i ≤ k) → bit ws k ≡ true
+        by (inl l) = set_before k l
+        by (inr l) =
+            let t = bit_at-trailing_ones w32 (get_or ws i 0) (omega arith) in
+            let at : i * 32 + (k - i * 32) ≡ k = omega arith in
+            ap (bit ws) (sym at) ∙ word (k - i * 32) (omega (arith, t.0)) ∙ ap (λ (x : ℕ). eqb x 1) (t.2 (k - i * 32) (omega arith))
 
-module _ (ws : List ℕ) (i : ℕ) (before : (k : ℕ) → k < 32 * i → bit ws k ≡ true) where
-  -- one more full word
-  pub full_more : get_or ws i 0 ≡ 2 ^ 32 - 1 → (k : ℕ) → k < 32 * (i + 1) → bit ws k ≡ true
-  unfolding bit
-  full_more e k h = go (cases_lt k (32 * i))
-    where
-      go : (k < 32 * i) ⊎ (32 * i ≤ k) → bit ws k ≡ true
-      go (inl l) = before k l
-      go (inr l) =
-          let at : k / 32 ≡ i = omega arith in
-          ap (λ (x : ℕ). digit (get_or ws x 0) (k % 32)) at ∙ ap (λ (x : ℕ). digit x (k % 32)) e ∙ digit_full (k % 32) (omega arith)
-
-  -- a word that is not full
-  pub empty_at : (t : ℕ) → Gap (get_or ws i 0) t → bit ws (i * 32 + t) ≡ false
-  unfolding bit
-  empty_at t g =
-      let row : (i * 32 + t) / 32 ≡ i = omega (arith, g.inside) in
-      let col : (i * 32 + t) % 32 ≡ t = omega (arith, g.inside) in
-      ap (λ (x : ℕ). digit (get_or ws x 0) ((i * 32 + t) % 32)) row ∙ ap (λ (x : ℕ). digit (get_or ws i 0) x) col ∙ g.empty
-
-  pub shut_below : (t : ℕ) → Gap (get_or ws i 0) t → (k : ℕ) → k < i * 32 + t → bit ws k ≡ true
-  unfolding bit
-  shut_below t g k h = go (cases_lt k (32 * i))
-    where
-      go : (k < 32 * i) ⊎ (32 * i ≤ k) → bit ws k ≡ true
-      go (inl l) = before k l
-      go (inr l) =
-          let at : k / 32 ≡ i = omega (arith, g.inside) in
-          ap (λ (x : ℕ). digit (get_or ws x 0) (k % 32)) at ∙ g.shut (k % 32) (omega arith)
-
-pub lowest_some : (ws : List ℕ) (n s : ℕ) → s < n → bit ws s ≡ false → ((k : ℕ) → k < s → bit ws k ≡ true) → Lowest (bits ws n) (Some s)
-lowest_some ws n s l e below = (get_d_bits ws n s true l ∙ e, λ k h. get_d_bits ws n k true (omega arith) ∙ below k h)
-
-pub lowest_none : (ws : List ℕ) (n s : ℕ) → n ≤ s → ((k : ℕ) → k < s → bit ws k ≡ true) → Lowest (bits ws n) None
-lowest_none ws n s l below k = go (cases_lt k n)
-  where
-    go : (k < n) ⊎ (n ≤ k) → get_or (bits ws n) k true ≡ true
-    go (inl h) = get_d_bits ws n k true h ∙ below k (omega arith)
-    go (inr h) = get_or_past (bits ws n) k true (omega (arith, length_bits ws n))
+    pub lowest_some : Lowest (bits ws n) (then_some (ltb lowest n) lowest)
+    lowest_some = by (cases_lt lowest n)
+      where
+        by : (lowest < n) ⊎ (n ≤ lowest) → Lowest (bits ws n) (then_some (ltb lowest n) lowest)
+        by (inl h) =
+            let t = bit_at-trailing_ones w32 (get_or ws i 0) (omega arith) in
+            rw lt-ltb (get_d_bits ws n lowest true h ∙ word _ t.0 ∙ ap (λ (x : ℕ). eqb x 1) t.1, λ k l. get_d_bits ws n k true (omega arith) ∙ set_below k l)
+        by (inr h) = rw le-ltb (none_below ws n lowest h set_below)
 
 -- ---- none clear, and all clear
 
@@ -233,3 +173,6 @@ pub idle_from_length : (bs : List Bool) → clear_in bs ≡ length bs → bs ≡
 idle_from_length [] e = refl
 idle_from_length (true ∷ bs) e = absurd (omega (arith, clear_in_cons true bs, clear_in_le bs))
 idle_from_length (false ∷ bs) e = ap (λ (xs : List Bool). false ∷ xs) (idle_from_length bs (omega (arith, clear_in_cons false bs)))
+
+-- what the methods of `Slots` need of a bitmap
+pub ruleset slot_steps = (length_bits, get_d_bits, bit_read, bits_or, bits_and_not, bits_new, clear_in_none, clear_in_le, clear_in_lent, clear_in_back, set_within)

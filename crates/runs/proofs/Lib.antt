@@ -1,6 +1,5 @@
 -- Lemmas on shapes, bitmaps and tables of runs.
 pub mod Cuts
-pub mod Digits
 pub mod Bitmaps
 pub mod Places
 pub mod Laws

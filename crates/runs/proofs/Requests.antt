@@ -33,6 +33,13 @@ smallest_exists (suc n) c bytes e some within low =
     (λ holds. (c, record { some = some; within = within; known = omega arith; holds = holds; least = low }))
     (cases_lt (size_of c) bytes)
 
+pub has_class : (bytes : ℕ) → 0 < bytes → bytes ≤ 1792 → (d : ℕ) × Smallest bytes d
+has_class bytes some within = smallest_exists 31 0 bytes refl some within (λ d h. absurd (omega arith))
+
+-- the pages of a longer one
+pub long_pages : (bytes : ℕ) → 1792 < bytes → bytes ≤ 130560 → LongPages bytes ((bytes + 511) / 512)
+long_pages bytes long within = record { long = long; within = within; holds = omega arith; least = λ q h. omega arith }
+
 -- two classes of one size are one
 same_class : (c d : ℕ) → c < 32 → d < 32 → size_of c ≡ size_of d → c ≡ d
 same_class c d h k e =
@@ -54,20 +61,20 @@ shape_of_size bytes s some within e = by s.class refl
     by (Some c) p =
         ⊎_elim
         (λ small.
-        let d = smallest_exists 31 0 bytes refl some small (λ d h. absurd (omega arith)) in
+        let d = has_class bytes some small in
         let same : c.number ≡ d.0 = same_class c.number d.0 c.known d.1.known (size_by_lem (Some c) p ∙ block_of_class bytes d.0 d.1) in
         record { some = some; within = within; classed = λ h. (c, p, subst (Smallest bytes) (sym same) d.1); own = λ h. absurd (omega arith) })
         (λ long.
-        let l : LongPages bytes ((bytes + 511) / 512) = record { long = long; within = within; holds = omega arith; least = λ q h. omega arith } in
+        let l = long_pages bytes long within in
         absurd (omega (arith, class_at_most c.number c.known, size_by_lem (Some c) p, block_of_long bytes ((bytes + 511) / 512) l)))
         (classed_or_long bytes)
     by None p =
         ⊎_elim
         (λ small.
-        let d = smallest_exists 31 0 bytes refl some small (λ d h. absurd (omega arith)) in
+        let d = has_class bytes some small in
         absurd (omega (arith, class_at_most d.0 d.1.known, size_by_lem None p, block_of_class bytes d.0 d.1, s.paged.0)))
         (λ long.
-        let l : LongPages bytes ((bytes + 511) / 512) = record { long = long; within = within; holds = omega arith; least = λ q h. omega arith } in
+        let l = long_pages bytes long within in
         let same : (bytes + 511) / 512 ≡ s.count = omega (arith, size_by_lem None p, block_of_long bytes ((bytes + 511) / 512) l) in
         record { some = some; within = within; classed = λ h. absurd (omega arith); own = λ h. (p, subst (LongPages bytes) same l) })
         (classed_or_long bytes)
@@ -84,8 +91,8 @@ block_holds bytes s h =
 pub request_holds : (bytes : ℕ) → 0 < bytes → bytes ≤ 130560 → bytes ≤ block_bytes bytes
 request_holds bytes some within =
     ⊎_elim
-    (λ small. let d = smallest_exists 31 0 bytes refl some small (λ d h. absurd (omega arith)) in omega (arith, d.1.holds, block_of_class bytes d.0 d.1))
+    (λ small. let d = has_class bytes some small in omega (arith, d.1.holds, block_of_class bytes d.0 d.1))
     (λ long.
-    let l : LongPages bytes ((bytes + 511) / 512) = record { long = long; within = within; holds = omega arith; least = λ q h. omega arith } in
+    let l = long_pages bytes long within in
     omega (arith, l.holds, block_of_long bytes ((bytes + 511) / 512) l))
     (classed_or_long bytes)

@@ -1,10 +1,11 @@
 -- What the words of a bitmap say: a list of Bools, true where the bit is set.
-use Rattle.std.specs.Prelude.{◌≡◌, ℕ, ◌/◌, ◌%◌, ◌^◌, ◌<◌, Bool, true, false, not, List, map, Some, None, count_by, Option, ◌==◌, slice_index, slice_index_or}
+use Rattle.std.specs.Prelude.{◌≡◌, ℕ, ◌/◌, ◌%◌, ◌<◌, Bool, true, false, not, List, map, Some, None, count_by, Option, ◌==◌, slice_index, slice_index_or}
+use Rattle.std.specs.Int.{bit_at}
 use Rattle.std.specs.List.{range_with_len}
 
 -- digit j of w
 abbrev pub digit : ℕ → ℕ → Bool
-digit w j = w / 2 ^ j % 2 == 1
+digit w j = bit_at w j == 1
 
 -- bit k of a row of words of 32 bits
 unfoldable pub bit : List ℕ → ℕ → Bool

@@ -1,5 +1,5 @@
 -- Runs, and what the indices of a table of runs hold.
-use Rattle.std.specs.Prelude.{◌≡◌, ℕ, ◌+◌, ◌<◌, ◌≤◌, Bool, true, false, ◌&&◌, ◌||◌, ◌⊎◌, List, length, Some, None, Option, ◌==◌, nat_le, nat_lt, slice_index_or, slice_set}
+use Rattle.std.specs.Prelude.{◌≡◌, ℕ, ◌+◌, ◌<◌, ◌≤◌, Bool, true, false, ◌&&◌, ◌⊎◌, List, length, Some, None, Option, ◌==◌, nat_le, nat_lt, slice_index_or, slice_set}
 use Rattle.classes.specs.declared.class.Class.{Class}
 use Rattle.runs.specs.declared.run.Run.{Run}
 use Rattle.runs.specs.declared.table.Spot.{Spot}
@@ -34,9 +34,9 @@ abbrev pub serves : (n : ℕ) → Option Run → Bool
 serves n None = false
 serves n (Some r) = is_class n r.shape.class && nat_lt 0 (free r)
 
--- whether r has fewer free slots than t, or as many and a lower first page
-abbrev pub precedes : (r t : Run) → Bool
-precedes r t = nat_lt (free r) (free t) || (free r == free t && nat_lt r.first t.first)
+-- by what a run is chosen: its free slots, then its first page
+abbrev pub rank : Run → ℕ × ℕ
+rank r = (free r, r.first)
 
 -- the answer is the lowest index that passes the test, or None where none does
 abbrev pub First : (Option Run → Bool) → List (Option Run) → Option ℕ → Type 0

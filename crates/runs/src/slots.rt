@@ -7,7 +7,8 @@ mod methods;
 
 #[derive(Clone, Copy)]
 pub struct Slots {
-    // Bit `s % 32` of word `s / 32` is set while slot `s` is on loan.
+    // Bit `s % 32` of word `s / 32` is set while slot `s` is on loan: a bit each and a count, since memory is fixed and
+    // the choice of a run reads the count of each.
     words: [u32; 8],
     total: u16,
     free: u16,

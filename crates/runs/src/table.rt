@@ -7,7 +7,7 @@ use crate::run::Run;
 
 mod methods;
 
-/// At each index a run or none.
+/// At each index a run or none, in fixed memory.
 #[derive(Drop)]
 pub struct Runs {
     table: [Option<Run>; MAX_RUNS],

@@ -1,6 +1,6 @@
 -- Two samples of one value are the same, and a coding is read as what was coded.
-use Rattle.std.specs.Prelude.{◌≡◌, ℕ, ◌+◌, ◌*◌, ◌/◌, ◌%◌, ◌<◌, ℤ, FitsSigned, refl}
-use Rattle.std.proofs.Common.{sym, ap, ◌∙◌, rules, of_z, to_z}
+use Rattle.std.specs.Prelude.{◌≡◌, ◌+◌, ◌*◌, ◌/◌, ◌%◌, ◌<◌, ℤ, FitsSigned}
+use Rattle.std.proofs.Common.{rules, of_z, to_z}
 use mathlib.Core.HLevel.{is_prop→PathP}
 use Rattle.std.proofs.Math.Bridge.{le_prop}
 use Rattle.std.specs.Int.Signed.{mag}

@@ -1,11 +1,9 @@
 //! What every kind of sample means.
-ghost use Rattle.std.specs.Prelude.{◌≡◌, ℕ, ◌≤◌, List, [], ◌∷◌, length};
+ghost use Rattle.std.specs.Prelude.{◌≡◌, ℕ, ◌≤◌, List, length};
 ghost use Rattle.samples.specs.Codes.{recoded, reread};
 
-use view::View;
-
-/// A kind of sample. A value's view is its width alone.
-pub trait Kind: View {
+/// A kind of sample.
+pub trait Kind {
     type Sample: Copy;
 
     // the bytes of a sample
@@ -35,8 +33,6 @@ pub trait Kind: View {
     ghost least: { 1 ≤ wide };
 
     ghost most: { wide ≤ 8 };
-
-    ghost viewed: { (k : Self) → Self.View.view k ≡ wide ∷ [] };
 
     ghost long: { (x : Self.Sample) → length (coded x) ≡ wide };
 

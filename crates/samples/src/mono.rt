@@ -1,22 +1,14 @@
 //! One channel: a signed number of 16 bits, low byte first.
-ghost use Rattle.std.specs.Prelude.{◌≡◌, ℕ, ◌<◌, ◌≤◌, List, [], ◌∷◌, length};
-ghost use Rattle.std.specs.Int.Signed.{mag};
-ghost use Rattle.samples.specs.Codes.{recoded, reread};
 ghost use Rattle.samples.specs.MonoCode.{coded_mono, heard_mono, silent_mono};
 ghost use Rattle.samples.specs.Samples.{mono_back};
 ghost use Rattle.std.proofs.Common.{rules};
 
 use crate::kind::Kind;
 use crate::sample::MonoSample;
-use view::View;
 
 /// The kind of one channel.
 #[derive(Clone, Copy)]
 pub struct Mono;
-
-impl View for Mono {
-    ghost view = { λ _. 2 ∷ [] };
-}
 
 impl Kind for Mono {
     type Sample = MonoSample;
@@ -32,8 +24,6 @@ impl Kind for Mono {
     ghost least = { Prim.search rules };
 
     ghost most = { Prim.search rules };
-
-    ghost viewed = { Prim.search rules };
 
     ghost long = { Prim.search rules };
 
@@ -54,10 +44,9 @@ impl Kind for Mono {
     }
 
     fn read(&self, bytes: &[u8]) -> MonoSample {
-        if bytes.len() == 2 {
-            MonoSample::new(i16::from_le_bytes([bytes[0], bytes[1]]))
-        } else {
-            self.silence()
+        match *bytes {
+            [low, high] => MonoSample::new(i16::from_le_bytes([low, high])),
+            _ => self.silence(),
         }
     }
 }

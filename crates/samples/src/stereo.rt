@@ -1,8 +1,5 @@
 //! Two channels: left, then right, each as one channel.
-ghost use Rattle.std.specs.Prelude.{◌≡◌, ℕ, ◌≤◌, List, [], ◌∷◌, length};
-ghost use Rattle.std.proofs.Math.Path.{ap};
-ghost use Rattle.std.proofs.Common.{◌∙◌, rules};
-ghost use Rattle.samples.specs.Codes.{recoded, reread};
+ghost use Rattle.std.proofs.Common.{ap, ◌∙◌, rules};
 ghost use Rattle.samples.specs.StereoCode.{coded_stereo, heard_stereo, silent_stereo};
 ghost use Rattle.samples.specs.MonoCode.{coded_mono, heard_mono};
 ghost use Rattle.samples.specs.Samples.{mono_back};
@@ -11,15 +8,10 @@ ghost use Rattle.samples.specs.StereoKindLemmas.{both};
 use crate::kind::Kind;
 use crate::mono::Mono;
 use crate::sample::StereoSample;
-use view::View;
 
 /// The kind of two channels.
 #[derive(Clone, Copy)]
 pub struct Stereo;
-
-impl View for Stereo {
-    ghost view = { λ _. 4 ∷ [] };
-}
 
 impl Kind for Stereo {
     type Sample = StereoSample;
@@ -35,8 +27,6 @@ impl Kind for Stereo {
     ghost least = { Prim.search rules };
 
     ghost most = { Prim.search rules };
-
-    ghost viewed = { Prim.search rules };
 
     ghost long = { Prim.search rules };
 
@@ -55,8 +45,9 @@ impl Kind for Stereo {
 
     fn code(&self, sample: StereoSample, out: &mut [u8]) {
         if out.len() == 4 {
-            Mono.code(sample.left, &mut out[0..2]);
-            Mono.code(sample.right, &mut out[2..4]);
+            let (left, right) = out.split_at_mut(2);
+            Mono.code(sample.left, left);
+            Mono.code(sample.right, right);
         }
     }
 

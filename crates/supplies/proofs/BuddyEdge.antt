@@ -3,13 +3,15 @@ use Rattle.std.proofs.Common.{◌≡◌, ℕ, ◌+◌, ◌%◌, ◌<◌, ◌≤�
 use Rattle.std.proofs.lemmas.Bool.{cases_lt}
 use Rattle.pages.specs.declared.fault.SupplyFault.{SupplyFault}
 use Rattle.pages.specs.declared.run.Run.{Run}
-use Rattle.pages.specs.Table.{Free, SameFits, SameChoice}
+use Rattle.pages.specs.Rule.{SameRule}
+use Rattle.pages.specs.Table.{Free}
 use Rattle.pages.specs.Calls.{Taken}
 use Rattle.pages.specs.Tables.{get_or_zeros}
 use Rattle.buddy.specs.Reserve.{power_for, reserves}
-use Rattle.buddy.specs.BuddyRule.{FreeReserve, BuddyFits, LowestReserve}
+use Rattle.buddy.specs.BuddyRule.{FreeReserve, BuddyFits, LowestReserve, buddy as rule_of}
 use Rattle.buddy.specs.Powers.{power_is}
 use Rattle.buddy.specs.Reserves.{reserves_set}
+use Rattle.pages.proofs.SameRules.{same_rule}
 use Rattle.supplies.specs.Edges.{Went, Refused}
 use Rattle.supplies.proofs.Lands.{lands, unfit, lowest_one, free_nothing, free_put, busy}
 
@@ -102,24 +104,20 @@ full h =
     (cases_lt q 8)
 
 module _ (n : ℕ) (e : n ≡ 16) where
-  same_fits : SameFits (BuddyFits 16) (BuddyFits n)
-  same_fits = subst (λ (m : ℕ). SameFits (BuddyFits 16) (BuddyFits m)) (sym e) (λ t c. ((λ h. h), (λ h. h)))
+  same : SameRule (rule_of 16) (rule_of n)
+  same = subst (λ (m : ℕ). SameRule (rule_of 16) (rule_of m)) (sym e) (same_rule (rule_of 16))
 
-  same_choice : SameChoice (LowestReserve 16) (LowestReserve n)
-  same_choice = subst (λ (m : ℕ). SameChoice (LowestReserve 16) (LowestReserve m)) (sym e) (λ t c p. ((λ h. h), (λ h. h)))
+  went : (c p : ℕ) (t v u : List ℕ) (r : Result Run SupplyFault) → Taken (rule_of n) c v u r → v ≡ t → 0 < c → c ≤ 16 → LowestReserve 16 t c p → Went p c r × (u ≡ set t p c)
+  went c p t v u r h d some most low = lands (rule_of 16) (rule_of n) same c p t v u r h d some most (some, (p, low.0)) (λ q l. lowest_one (FreeReserve 16 t c) p q low l)
 
-  went : (c p : ℕ) (t v u : List ℕ) (r : Result Run SupplyFault) → Taken n (BuddyFits n) (LowestReserve n) c v u r → v ≡ t → 0 < c → c ≤ 16 → LowestReserve 16 t c p → Went p c r × (u ≡ set t p c)
-  went c p t v u r h d some most low =
-      lands 16 n (BuddyFits 16) (BuddyFits n) (LowestReserve 16) (LowestReserve n) e same_fits same_choice c p t v u r h d some most (some, (p, low.0)) (λ q l. lowest_one (FreeReserve 16 t c) p q low l)
-
-  pub went5 : (v u : List ℕ) (r : Result Run SupplyFault) → Taken n (BuddyFits n) (LowestReserve n) 5 v u r → v ≡ replicate 16 0 → Went 0 5 r × (u ≡ t1)
+  pub went5 : (v u : List ℕ) (r : Result Run SupplyFault) → Taken (rule_of n) 5 v u r → v ≡ replicate 16 0 → Went 0 5 r × (u ≡ t1)
   went5 v u r h d = went 5 0 t0 v u r h d (omega arith) (omega arith) at0
 
-  pub went3 : (v u : List ℕ) (r : Result Run SupplyFault) → Taken n (BuddyFits n) (LowestReserve n) 3 v u r → v ≡ t1 → Went 8 3 r × (u ≡ t2)
+  pub went3 : (v u : List ℕ) (r : Result Run SupplyFault) → Taken (rule_of n) 3 v u r → v ≡ t1 → Went 8 3 r × (u ≡ t2)
   went3 v u r h d = went 3 8 t1 v u r h d (omega arith) (omega arith) at8
 
-  pub went4 : (v u : List ℕ) (r : Result Run SupplyFault) → Taken n (BuddyFits n) (LowestReserve n) 4 v u r → v ≡ t2 → Went 12 4 r × (u ≡ t3)
+  pub went4 : (v u : List ℕ) (r : Result Run SupplyFault) → Taken (rule_of n) 4 v u r → v ≡ t2 → Went 12 4 r × (u ≡ t3)
   went4 v u r h d = went 4 12 t2 v u r h d (omega arith) (omega arith) at12
 
-  pub none1 : (v u : List ℕ) (r : Result Run SupplyFault) → Taken n (BuddyFits n) (LowestReserve n) 1 v u r → v ≡ t3 → Refused 12 1 r
-  none1 v u r h d = unfit 16 n (BuddyFits 16) (BuddyFits n) (LowestReserve 16) (LowestReserve n) e same_fits same_choice 1 t3 v u r h d (omega arith) (omega arith) full
+  pub none1 : (v u : List ℕ) (r : Result Run SupplyFault) → Taken (rule_of n) 1 v u r → v ≡ t3 → Refused 12 1 r
+  none1 v u r h d = unfit (rule_of 16) (rule_of n) same 1 t3 v u r h d (omega arith) (omega arith) full

@@ -3,33 +3,28 @@ use Rattle.std.proofs.Common.{◌≡◌, ℕ, ◌+◌, ◌<◌, ◌≤◌, ◌�
 use Rattle.std.proofs.lemmas.Bool.{cases_order}
 use Rattle.pages.specs.declared.fault.SupplyFault.{SupplyFault}
 use Rattle.pages.specs.declared.run.Run.{Run}
-use Rattle.pages.specs.Table.{Free, Nothing, SameFits, SameChoice}
+use Rattle.pages.specs.Rule.{Rule, SameRule}
+use Rattle.pages.specs.Table.{Free, Nothing}
 use Rattle.pages.specs.Calls.{Taken}
 use Rattle.pages.specs.Lowest.{Lowest}
 use Rattle.pages.specs.Tables.{at_set}
 use Rattle.supplies.specs.Edges.{Went, Refused}
 
--- a supply whose rule is that of another
-module _ (L M : ℕ) (F G : List ℕ → ℕ → Type 0) (C D : List ℕ → ℕ → ℕ → Type 0) (l : M ≡ L) (f : SameFits F G) (d : SameChoice C D) where
+-- a supply whose rule says what another says
+module _ (R Q : Rule) (s : SameRule R Q) where
   -- a count that fits goes to the one place that is chosen
-  pub lands : (c p : ℕ) (t v u : List ℕ) (r : Result Run SupplyFault) → Taken M G D c v u r → v ≡ t → 0 < c → c ≤ L → F t c → ((q : ℕ) → C t c q → q ≡ p) → Went p c r × (u ≡ set t p c)
+  pub lands : (c p : ℕ) (t v u : List ℕ) (r : Result Run SupplyFault) → Taken Q c v u r → v ≡ t → 0 < c → c ≤ R.largest → R.fits t c → ((q : ℕ) → R.chooses t c q → q ≡ p) → Went p c r × (u ≡ set t p c)
   lands c p t v u (Ok run) h e some most fit only =
-      let chosen : D t c run.first = subst (λ (x : List ℕ). D x c run.first) e h.chosen in
-      let at : run.first ≡ p = only run.first ((d t c run.first).1 chosen) in
+      let chosen : Q.chooses t c run.first = subst (λ (x : List ℕ). Q.chooses x c run.first) e h.chosen in
+      let at : run.first ≡ p = only run.first ((s.chooses t c run.first).1 chosen) in
       ((at, h.same), h.after_is ∙ ap (λ (x : List ℕ). set x run.first c) e ∙ ap (λ (x : ℕ). set t x c) at)
   lands c p t v u (Err x) h e some most fit only =
-      absurd ((h.unfit some (omega arith)).1 (subst (λ (y : List ℕ). G y c) (sym e) ((f t c).0 fit)))
+      absurd ((h.unfit some (omega (arith, most, s.largest))).1 (subst (λ (y : List ℕ). Q.fits y c) (sym e) ((s.fits t c).0 fit)))
 
   -- a count that does not fit is refused by 12
-  pub unfit : (c : ℕ) (t v u : List ℕ) (r : Result Run SupplyFault) → Taken M G D c v u r → v ≡ t → 0 < c → c ≤ L → (F t c → ⊥) → Refused 12 c r
-  unfit c t v u (Ok run) h e some most never = never ((f t c).1 (subst (λ (y : List ℕ). G y c) e h.fit))
-  unfit c t v u (Err x) h e some most never = ((h.unfit some (omega arith)).0, h.told)
-
-pub same_fits : (P Q R : List ℕ → ℕ → Type 0) → SameFits P Q → SameFits Q R → SameFits P R
-same_fits P Q R a b t c = ((λ h. (b t c).0 ((a t c).0 h)), (λ h. (a t c).1 ((b t c).1 h)))
-
-pub same_choices : (P Q R : List ℕ → ℕ → ℕ → Type 0) → SameChoice P Q → SameChoice Q R → SameChoice P R
-same_choices P Q R a b t c p = ((λ h. (b t c p).0 ((a t c p).0 h)), (λ h. (a t c p).1 ((b t c p).1 h)))
+  pub unfit : (c : ℕ) (t v u : List ℕ) (r : Result Run SupplyFault) → Taken Q c v u r → v ≡ t → 0 < c → c ≤ R.largest → (R.fits t c → ⊥) → Refused 12 c r
+  unfit c t v u (Ok run) h e some most never = never ((s.fits t c).1 (subst (λ (y : List ℕ). Q.fits y c) e h.fit))
+  unfit c t v u (Err x) h e some most never = ((h.unfit some (omega (arith, most, s.largest))).0, h.told)
 
 -- there is one lowest number
 pub lowest_one : (P : ℕ → Type 0) (p q : ℕ) → Lowest P p → Lowest P q → q ≡ p

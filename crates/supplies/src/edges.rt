@@ -7,7 +7,6 @@ use pages::fault::SupplyFault;
 use pages::first_fit::FirstFit;
 use pages::run::Run;
 use pages::supply::Supply;
-use view::View;
 
 /// A buddy supply of 16 pages: the reserves of 5, 3 and 4 pages are 8, 4 and 4, and then no page is left.
 pub fn buddy_places() -> (

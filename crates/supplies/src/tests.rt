@@ -9,8 +9,8 @@ use pages::first_fit::FirstFit;
 use pages::run::Run;
 use pages::span::check_span;
 use pages::supply::Supply;
-use view::View;
 
+// Calls are values, since a row holds one. Each layer has a table of its own, as other things are asked and told there.
 #[derive(Clone, Copy)]
 enum Call {
     Span,
@@ -21,50 +21,55 @@ enum Call {
     Again(u32, u32),
 }
 
-// A call with its answer: 0 and the first page or the number asked, or the refusal's number and place.
+// What a call answers: a number and 0, or a run's first page and its count; or a refusal by its number and its place.
+type Answer = Result<(u32, u32), (u32, u32)>;
+
+// A call with its answer.
 #[derive(Clone, Copy)]
 struct Row {
     call: Call,
-    answer: (u32, u32),
+    answer: Answer,
 }
 
-fn says(call: Call, number: u32, place: u32) -> Row {
+// A call that is granted: a taken run has the count asked.
+fn says(call: Call, first: u32) -> Row {
+    let second = match call {
+        Call::Take(count) | Call::Again(_, count) => count,
+        _ => 0,
+    };
     Row {
         call,
-        answer: (number, place),
+        answer: Ok((first, second)),
     }
 }
 
-fn placed(answer: Result<Run, SupplyFault>, count: u32) -> (u32, u32) {
-    match answer {
-        Ok(run) if run.count == count => (0, run.first),
-        Ok(run) => (1, run.count),
-        Err(e) => (e.number(), e.place()),
+fn refuses(call: Call, number: u32, place: u32) -> Row {
+    Row {
+        call,
+        answer: Err((number, place)),
     }
 }
 
-fn ask<S: Supply>(supply: &mut S, call: Call) -> (u32, u32) {
-    match call {
-        Call::Span => (0, supply.span()),
-        Call::Largest => (0, supply.largest()),
-        Call::Out => (0, supply.pages_out()),
-        Call::Take(count) => placed(supply.take(count), count),
-        Call::Give(first, count) => match supply.give(first, count) {
-            Ok(()) => (0, 0),
-            Err(e) => (e.number(), e.place()),
-        },
-        Call::Again(first, count) => placed(take_again(supply, first, count), count),
-    }
+fn placed(answer: Result<Run, SupplyFault>) -> Result<(u32, u32), SupplyFault> {
+    answer.map(|run| (run.first, run.count))
+}
+
+fn ask<S: Supply>(supply: &mut S, call: Call) -> Answer {
+    let answer = match call {
+        Call::Span => Ok((supply.span(), 0)),
+        Call::Largest => Ok((supply.largest(), 0)),
+        Call::Out => Ok((supply.pages_out(), 0)),
+        Call::Take(count) => placed(supply.take(count)),
+        Call::Give(first, count) => supply.give(first, count).map(|()| (0, 0)),
+        Call::Again(first, count) => placed(take_again(supply, first, count)),
+    };
+    answer.map_err(|fault| (fault.number(), fault.place()))
 }
 
 // The first row that has another answer.
 fn wrong<S: Supply>(supply: &mut S, rows: &[Row]) -> Option<usize> {
-    for (n, row) in rows.iter().enumerate() {
-        if ask(supply, row.call) != row.answer {
-            return Some(n);
-        }
-    }
-    None
+    rows.iter()
+        .position(|row| ask(supply, row.call) != row.answer)
 }
 
 // The same over a guard of the supply.
@@ -74,40 +79,37 @@ fn wrong_guarded<S: Supply>(supply: S, rows: &[Row]) -> (S, Option<usize>) {
     (layer.into_below(), found)
 }
 
-fn checked(answer: Result<(), SpanFault>) -> (u32, u32) {
-    match answer {
-        Ok(()) => (0, 0),
-        Err(e) => (e.number(), e.place()),
-    }
+fn checked(answer: Result<(), SpanFault>) -> Result<(), (u32, u32)> {
+    answer.map_err(|fault| (fault.number(), fault.place()))
 }
 
 #[test]
 fn first_fit(rt: HostRuntime) {
     let rows = [
-        says(Call::Span, 0, 10),
-        says(Call::Largest, 0, 10),
-        says(Call::Out, 0, 0),
-        says(Call::Take(0), 11, 0),
-        says(Call::Take(11), 11, 11),
-        says(Call::Give(0, 1), 13, 0),
-        says(Call::Take(4), 0, 0),
-        says(Call::Take(2), 0, 4),
-        says(Call::Take(5), 12, 5),
-        says(Call::Take(4), 0, 6),
-        says(Call::Out, 0, 10),
-        says(Call::Take(1), 12, 1),
-        says(Call::Give(0, 3), 13, 0),
-        says(Call::Give(1, 4), 13, 1),
-        says(Call::Give(0, 0), 13, 0),
-        says(Call::Give(1024, 0), 13, 1024),
-        says(Call::Give(5000, 4), 13, 5000),
-        says(Call::Give(0, 4), 0, 0),
-        says(Call::Give(0, 4), 13, 0),
-        says(Call::Out, 0, 6),
-        says(Call::Take(3), 0, 0),
-        says(Call::Again(4, 2), 0, 3),
-        says(Call::Again(5, 2), 13, 5),
-        says(Call::Take(1), 0, 5),
+        says(Call::Span, 10),
+        says(Call::Largest, 10),
+        says(Call::Out, 0),
+        refuses(Call::Take(0), 11, 0),
+        refuses(Call::Take(11), 11, 11),
+        refuses(Call::Give(0, 1), 13, 0),
+        says(Call::Take(4), 0),
+        says(Call::Take(2), 4),
+        refuses(Call::Take(5), 12, 5),
+        says(Call::Take(4), 6),
+        says(Call::Out, 10),
+        refuses(Call::Take(1), 12, 1),
+        refuses(Call::Give(0, 3), 13, 0),
+        refuses(Call::Give(1, 4), 13, 1),
+        refuses(Call::Give(0, 0), 13, 0),
+        refuses(Call::Give(1024, 0), 13, 1024),
+        refuses(Call::Give(5000, 4), 13, 5000),
+        says(Call::Give(0, 4), 0),
+        refuses(Call::Give(0, 4), 13, 0),
+        says(Call::Out, 6),
+        says(Call::Take(3), 0),
+        says(Call::Again(4, 2), 3),
+        refuses(Call::Again(5, 2), 13, 5),
+        says(Call::Take(1), 5),
     ];
     assert_eq!(rt; wrong(&mut FirstFit::new(10), &rows), None);
 }
@@ -115,25 +117,25 @@ fn first_fit(rt: HostRuntime) {
 #[test]
 fn buddy(rt: HostRuntime) {
     let rows = [
-        says(Call::Span, 0, 16),
-        says(Call::Largest, 0, 16),
-        says(Call::Take(0), 11, 0),
-        says(Call::Take(17), 11, 17),
-        says(Call::Take(5), 0, 0),
-        says(Call::Take(3), 0, 8),
-        says(Call::Take(4), 0, 12),
-        says(Call::Take(1), 12, 1),
-        says(Call::Out, 0, 12),
-        says(Call::Give(8, 4), 13, 8),
-        says(Call::Give(5, 3), 13, 5),
-        says(Call::Give(2000, 3), 13, 2000),
-        says(Call::Give(8, 3), 0, 0),
-        says(Call::Take(1), 0, 8),
-        says(Call::Take(2), 0, 10),
-        says(Call::Again(0, 5), 0, 0),
-        says(Call::Take(1), 0, 9),
-        says(Call::Take(1), 12, 1),
-        says(Call::Out, 0, 13),
+        says(Call::Span, 16),
+        says(Call::Largest, 16),
+        refuses(Call::Take(0), 11, 0),
+        refuses(Call::Take(17), 11, 17),
+        says(Call::Take(5), 0),
+        says(Call::Take(3), 8),
+        says(Call::Take(4), 12),
+        refuses(Call::Take(1), 12, 1),
+        says(Call::Out, 12),
+        refuses(Call::Give(8, 4), 13, 8),
+        refuses(Call::Give(5, 3), 13, 5),
+        refuses(Call::Give(2000, 3), 13, 2000),
+        says(Call::Give(8, 3), 0),
+        says(Call::Take(1), 8),
+        says(Call::Take(2), 10),
+        says(Call::Again(0, 5), 0),
+        says(Call::Take(1), 9),
+        refuses(Call::Take(1), 12, 1),
+        says(Call::Out, 13),
     ];
     assert_eq!(rt; wrong(&mut Buddy::new(16), &rows), None);
 }
@@ -141,13 +143,13 @@ fn buddy(rt: HostRuntime) {
 #[test]
 fn full(rt: HostRuntime) {
     let rows = [
-        says(Call::Largest, 0, 1024),
-        says(Call::Take(1024), 0, 0),
-        says(Call::Out, 0, 1024),
-        says(Call::Take(1), 12, 1),
-        says(Call::Again(0, 1024), 0, 0),
-        says(Call::Give(0, 1024), 0, 0),
-        says(Call::Out, 0, 0),
+        says(Call::Largest, 1024),
+        says(Call::Take(1024), 0),
+        says(Call::Out, 1024),
+        refuses(Call::Take(1), 12, 1),
+        says(Call::Again(0, 1024), 0),
+        says(Call::Give(0, 1024), 0),
+        says(Call::Out, 0),
     ];
     assert_eq!(rt; wrong(&mut FirstFit::new(1024), &rows), None);
     assert_eq!(rt; wrong(&mut Buddy::new(1024), &rows), None);
@@ -156,29 +158,29 @@ fn full(rt: HostRuntime) {
 #[test]
 fn guarded(rt: HostRuntime) {
     let over_first_fit = [
-        says(Call::Span, 0, 16),
-        says(Call::Largest, 0, 15),
-        says(Call::Take(0), 11, 0),
-        says(Call::Take(16), 11, 16),
-        says(Call::Take(4), 0, 0),
-        says(Call::Take(5), 0, 5),
-        says(Call::Take(5), 12, 5),
-        says(Call::Take(4), 0, 11),
-        says(Call::Out, 0, 13),
-        says(Call::Give(0, 5), 13, 0),
-        says(Call::Give(0, 0), 13, 0),
-        says(Call::Give(0, 4294967295), 13, 0),
-        says(Call::Again(5, 5), 0, 5),
-        says(Call::Give(0, 4), 0, 0),
-        says(Call::Out, 0, 9),
+        says(Call::Span, 16),
+        says(Call::Largest, 15),
+        refuses(Call::Take(0), 11, 0),
+        refuses(Call::Take(16), 11, 16),
+        says(Call::Take(4), 0),
+        says(Call::Take(5), 5),
+        refuses(Call::Take(5), 12, 5),
+        says(Call::Take(4), 11),
+        says(Call::Out, 13),
+        refuses(Call::Give(0, 5), 13, 0),
+        refuses(Call::Give(0, 0), 13, 0),
+        refuses(Call::Give(0, 4294967295), 13, 0),
+        says(Call::Again(5, 5), 5),
+        says(Call::Give(0, 4), 0),
+        says(Call::Out, 9),
     ];
     let over_buddy = [
-        says(Call::Largest, 0, 15),
-        says(Call::Take(3), 0, 0),
-        says(Call::Take(4), 0, 8),
-        says(Call::Take(3), 0, 4),
-        says(Call::Take(1), 12, 1),
-        says(Call::Out, 0, 10),
+        says(Call::Largest, 15),
+        says(Call::Take(3), 0),
+        says(Call::Take(4), 8),
+        says(Call::Take(3), 4),
+        refuses(Call::Take(1), 12, 1),
+        says(Call::Out, 10),
     ];
     let (_below, found) = wrong_guarded(FirstFit::new(16), &over_first_fit);
     assert_eq!(rt; found, None);
@@ -189,24 +191,24 @@ fn guarded(rt: HostRuntime) {
 #[test]
 fn nested(rt: HostRuntime) {
     let over_first_fit = [
-        says(Call::Largest, 0, 14),
-        says(Call::Take(15), 11, 15),
-        says(Call::Take(2), 0, 0),
-        says(Call::Take(3), 0, 4),
-        says(Call::Take(6), 12, 6),
-        says(Call::Take(5), 0, 9),
-        says(Call::Out, 0, 10),
-        says(Call::Give(4, 4), 13, 4),
-        says(Call::Again(4, 3), 0, 4),
+        says(Call::Largest, 14),
+        refuses(Call::Take(15), 11, 15),
+        says(Call::Take(2), 0),
+        says(Call::Take(3), 4),
+        refuses(Call::Take(6), 12, 6),
+        says(Call::Take(5), 9),
+        says(Call::Out, 10),
+        refuses(Call::Give(4, 4), 13, 4),
+        says(Call::Again(4, 3), 4),
     ];
     let over_buddy = [
-        says(Call::Largest, 0, 14),
-        says(Call::Take(15), 11, 15),
-        says(Call::Take(2), 0, 0),
-        says(Call::Take(3), 0, 8),
-        says(Call::Take(7), 12, 7),
-        says(Call::Give(4, 3), 13, 4),
-        says(Call::Out, 0, 5),
+        says(Call::Largest, 14),
+        refuses(Call::Take(15), 11, 15),
+        says(Call::Take(2), 0),
+        says(Call::Take(3), 8),
+        refuses(Call::Take(7), 12, 7),
+        refuses(Call::Give(4, 3), 13, 4),
+        says(Call::Out, 5),
     ];
     let (layer, found) = wrong_guarded(Guard::new(FirstFit::new(16)), &over_first_fit);
     let _below = layer.into_below();
@@ -219,22 +221,22 @@ fn nested(rt: HostRuntime) {
 #[test]
 fn passed_through(rt: HostRuntime) {
     let one_page = [
-        says(Call::Largest, 0, 1),
-        says(Call::Take(2), 11, 2),
-        says(Call::Take(1), 0, 0),
-        says(Call::Take(1), 12, 1),
-        says(Call::Out, 0, 1),
-        says(Call::Give(0, 1), 0, 0),
-        says(Call::Out, 0, 0),
+        says(Call::Largest, 1),
+        refuses(Call::Take(2), 11, 2),
+        says(Call::Take(1), 0),
+        refuses(Call::Take(1), 12, 1),
+        says(Call::Out, 1),
+        says(Call::Give(0, 1), 0),
+        says(Call::Out, 0),
     ];
     let runs_out = [
-        says(Call::Largest, 0, 8),
-        says(Call::Out, 0, 3),
-        says(Call::Take(5), 0, 3),
-        says(Call::Take(1), 12, 1),
-        says(Call::Give(0, 3), 0, 0),
-        says(Call::Take(3), 0, 0),
-        says(Call::Out, 0, 8),
+        says(Call::Largest, 8),
+        says(Call::Out, 3),
+        says(Call::Take(5), 3),
+        refuses(Call::Take(1), 12, 1),
+        says(Call::Give(0, 3), 0),
+        says(Call::Take(3), 0),
+        says(Call::Out, 8),
     ];
     let (_below, found) = wrong_guarded(FirstFit::new(1), &one_page);
     assert_eq!(rt; found, None);
@@ -242,7 +244,7 @@ fn passed_through(rt: HostRuntime) {
     let _below = layer.into_below();
     assert_eq!(rt; found, None);
     let mut supply = FirstFit::new(8);
-    assert_eq!(rt; wrong(&mut supply, &[says(Call::Take(3), 0, 0)]), None);
+    assert_eq!(rt; wrong(&mut supply, &[says(Call::Take(3), 0)]), None);
     let (_below, found) = wrong_guarded(supply, &runs_out);
     assert_eq!(rt; found, None);
 }
@@ -250,23 +252,23 @@ fn passed_through(rt: HostRuntime) {
 #[test]
 fn spans(rt: HostRuntime) {
     for (span, answer, made) in [
-        (0, (14, 0), 1),
-        (1, (0, 0), 1),
-        (3, (0, 0), 3),
-        (1024, (0, 0), 1024),
-        (1025, (14, 1025), 1),
+        (0, Err((14, 0)), 1),
+        (1, Ok(()), 1),
+        (3, Ok(()), 3),
+        (1024, Ok(()), 1024),
+        (1025, Err((14, 1025)), 1),
     ] {
         assert_eq!(rt; checked(check_span(span)), answer);
         assert_eq!(rt; FirstFit::new(span).span(), made);
     }
     for (span, answer, made) in [
-        (0, (14, 0), 1),
-        (1, (0, 0), 1),
-        (3, (14, 3), 1),
-        (64, (0, 0), 64),
-        (1024, (0, 0), 1024),
-        (1025, (14, 1025), 1),
-        (2048, (14, 2048), 1),
+        (0, Err((14, 0)), 1),
+        (1, Ok(()), 1),
+        (3, Err((14, 3)), 1),
+        (64, Ok(()), 64),
+        (1024, Ok(()), 1024),
+        (1025, Err((14, 1025)), 1),
+        (2048, Err((14, 2048)), 1),
     ] {
         assert_eq!(rt; checked(check_buddy_span(span)), answer);
         assert_eq!(rt; Buddy::new(span).span(), made);

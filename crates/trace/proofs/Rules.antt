@@ -1,26 +1,18 @@
 -- A step by a rule is a step by one that says the same.
-use Rattle.std.proofs.Common.{ℕ, List, [], ◌∷◌, Ok, Err, Option, Result, ◌∙◌}
+use Rattle.std.proofs.Common.{ℕ, List, [], ◌∷◌, Ok, Err, Option, Result}
 use Rattle.runs.specs.declared.run.Run.{Run}
 use Rattle.pool.specs.Release.{Released}
 use Rattle.pool.proofs.SameRule.{taken_same}
 use Rattle.rack.specs.declared.fault.RackFault.{RackFault}
 use Rattle.rack.specs.declared.state.State.{State}
-use Rattle.rack.specs.Model.{Model, Rule, SameRule, Coding, OpensAs, open_checks, Closes}
+use Rattle.pages.specs.Rule.{Rule, SameRule}
+use Rattle.rack.specs.Model.{Model, Coding, OpensAs, open_checks, Closes}
 use Rattle.trace.specs.declared.call.Call.{Call}
 use Rattle.trace.specs.declared.call.Call.TheVariants.{Open, Feed, Tick, Tap, Ring, Close}
-use Rattle.trace.specs.declared.call.Answer.{Answer}
-use Rattle.trace.specs.Steps.{Step, Deed, Ran}
-
-pub same_next : (R Q T : Rule) → SameRule R Q → SameRule Q T → SameRule R T
-same_next R Q T a b =
-    record {
-      largest = b.largest ∙ a.largest;
-      fits = λ t c. ((λ h. (b.fits t c).0 ((a.fits t c).0 h)), (λ h. (a.fits t c).1 ((b.fits t c).1 h)));
-      chooses = λ t c p. ((λ h. (b.chooses t c p).0 ((a.chooses t c p).0 h)), (λ h. (a.chooses t c p).1 ((b.chooses t c p).1 h)));
-    }
+use Rattle.trace.specs.Steps.{Reply, Step, Deed, Ran}
 
 module _ (R Q : Rule) (s : SameRule R Q) where
-  released_same : (rs ts : List (Option Run)) (v w : List ℕ) (offset : ℕ) → Released Q.fits rs ts v w offset → Released R.fits rs ts v w offset
+  released_same : (rs ts : List (Option Run)) (v w : List ℕ) (offset : ℕ) → Released Q rs ts v w offset → Released R rs ts v w offset
   released_same rs ts v w offset h =
       record {
         spot = h.spot;
@@ -35,14 +27,14 @@ module _ (R Q : Rule) (s : SameRule R Q) where
 
   opens_same : (w : ℕ) (m : Model) (k len : ℕ) (c : Result State RackFault) (r : Result ℕ RackFault) (n : Model) → OpensAs Q w m k len c r n → OpensAs R w m k len c r n
   opens_same w m k len (Ok t) r n h =
-      (h.0, taken_same R.largest Q.largest Q.fits R.fits Q.chooses R.chooses s.largest s.fits s.chooses _ m.runs n.runs m.pages n.pages h.0 h.1, h.2, h.3, h.4)
+      (h.0, taken_same R Q s _ m.runs n.runs m.pages n.pages h.0 h.1, h.2, h.3, h.4)
   opens_same w m k len (Err f) r n h = h
 
   closes_same : (m : Model) (k : ℕ) (r : Result (Unit {0}) RackFault) (n : Model) → Closes Q m k r n → Closes R m k r n
   closes_same m k (Ok u) n h = (h.0, record { lines = h.1.lines; released = released_same m.runs n.runs m.pages n.pages _ h.1.released; memory = h.1.memory })
   closes_same m k (Err f) n h = h
 
-  pub step_same : {X : Type 0} (C : Coding X) (m n : Model) (c : Call X) (a : Answer X) → Step Q C m c a n → Step R C m c a n
+  pub step_same : {X : Type 0} (C : Coding X) (m n : Model) (c : Call X) (a : Reply X) → Step Q C m c a n → Step R C m c a n
   step_same C m n (Open k len) a h = (h.0, opens_same C.wide m k len (open_checks C.wide m k len) h.0 n h.1, h.2)
   step_same C m n (Feed k x) a h = h
   step_same C m n (Tick k) a h = h

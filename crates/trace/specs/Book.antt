@@ -1,12 +1,11 @@
 -- The book that a caller can keep: it is fed the calls and their answers, and nothing else.
-use Rattle.std.specs.Prelude.{ℕ, ◌*◌, cond, List, [], ◌∷◌, ◌==◌}
+use Rattle.std.specs.Prelude.{ℕ, ◌*◌, cond, List, [], ◌∷◌, Ok, ◌==◌}
 use Rattle.classes.specs.Blocks.{block_bytes}
 use Rattle.rack.specs.Model.{Coding}
 use Rattle.trace.specs.declared.call.Call.{Call}
-use Rattle.trace.specs.declared.call.Call.TheVariants.{Open, Feed, Tick, Tap, Ring, Close}
-use Rattle.trace.specs.declared.call.Answer.{Answer}
-use Rattle.trace.specs.declared.call.Answer.TheVariants.{Opened, Done, Heard, Refused}
-use Rattle.trace.specs.Steps.{Deed}
+use Rattle.trace.specs.declared.call.Call.TheVariants.{Open, Feed, Tick, Ring, Close}
+use Rattle.trace.specs.declared.call.Answer.TheVariants.{Opened, Done}
+use Rattle.trace.specs.Steps.{Reply, Deed}
 
 pub data Phase : Type 0 where
   playing : Phase
@@ -36,29 +35,14 @@ abbrev pub rang : {X : Type 0} → Entry X → Entry X
 rang idle = idle
 rang (active p len h o s) = active ringing len h o s
 
--- one call and its answer: only what was granted is written down
-abbrev pub note : {X : Type 0} → Coding X → Book X → Call X → Answer X → Book X
-note C b (Open k len) (Opened o) = write b k (active playing len [] o (block_bytes (len * C.wide)))
-note C b (Open k len) Done = b
-note C b (Open k len) (Heard x) = b
-note C b (Open k len) (Refused f) = b
-note C b (Feed k y) (Opened o) = b
-note C b (Feed k y) Done = write b k (more y (b k))
-note C b (Feed k y) (Heard x) = b
-note C b (Feed k y) (Refused f) = b
-note C b (Tick k) (Opened o) = b
-note C b (Tick k) Done = write b k (more C.silent (b k))
-note C b (Tick k) (Heard x) = b
-note C b (Tick k) (Refused f) = b
-note C b (Tap k d) a = b
-note C b (Ring k) (Opened o) = b
-note C b (Ring k) Done = write b k (rang (b k))
-note C b (Ring k) (Heard x) = b
-note C b (Ring k) (Refused f) = b
-note C b (Close k) (Opened o) = b
-note C b (Close k) Done = write b k idle
-note C b (Close k) (Heard x) = b
-note C b (Close k) (Refused f) = b
+-- one call and its reply: only what was granted is written down
+abbrev pub note : {X : Type 0} → Coding X → Book X → Call X → Reply X → Book X
+note C b (Open k len) (Ok (Opened o)) = write b k (active playing len [] o (block_bytes (len * C.wide)))
+note C b (Feed k y) (Ok Done) = write b k (more y (b k))
+note C b (Tick k) (Ok Done) = write b k (more C.silent (b k))
+note C b (Ring k) (Ok Done) = write b k (rang (b k))
+note C b (Close k) (Ok Done) = write b k idle
+note C b c a = b
 
 -- the book after the calls of the log, first to last, where it was b before
 abbrev pub noted : {X : Type 0} → Coding X → Book X → List (Deed X) → Book X

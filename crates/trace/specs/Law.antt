@@ -4,12 +4,12 @@ use Rattle.classes.specs.Limits.{page_bytes}
 use Rattle.pages.specs.Table.{Out}
 use Rattle.rack.specs.declared.state.State.{State}
 use Rattle.rack.specs.declared.state.State.TheVariants.{Unused, Playing, Ringing}
-use Rattle.rack.specs.Model.{Model, fresh_model, Rule, Coding, kept_answer}
+use Rattle.pages.specs.Rule.{Rule}
+use Rattle.rack.specs.Model.{Model, fresh_model, Coding, kept_answer}
 use Rattle.trace.specs.declared.call.Call.{Call}
 use Rattle.trace.specs.declared.call.Call.TheVariants.{Open, Tap, Close}
-use Rattle.trace.specs.declared.call.Answer.{Answer}
 use Rattle.trace.specs.declared.call.Answer.TheVariants.{Opened, Done, Heard}
-use Rattle.trace.specs.Steps.{Deed, Step, Ran, beside}
+use Rattle.trace.specs.Steps.{Reply, Deed, Step, Ran, beside}
 use Rattle.trace.specs.Book.{Phase, playing, ringing, Entry, idle, active, book}
 use Rattle.trace.specs.History.{Recalled}
 
@@ -56,20 +56,24 @@ pub record Law {X : Type 0} (R : Rule) (C : Coding X) (log : List (Deed X)) (m :
   -- and every run that is out holds such a block
   pub filled : (first count : ℕ) → Out m.pages first count → (k : ℕ) × InRun (book C log k) first count
   -- a tap that is granted next answers the sample with exactly d newer ones, or silence
-  pub taps : (k d : ℕ) (x : X) (n : Model) → Step R C m (Tap k d) (Heard x) n → Tells C.silent (book C log k) d x
+  pub taps : (k d : ℕ) (x : X) (n : Model) → Step R C m (Tap k d) (Ok (Heard x)) n → Tells C.silent (book C log k) d x
   -- how many samples a line keeps
   pub keeps : (k n : ℕ) → kept_answer m.lines k ≡ Ok n → Keeps (book C log k) n
   -- where the last call was a granted close, opening that line next, with the length that it had, is granted
-  pub reopens : (before : List (Deed X)) (k len o s : ℕ) (p : Phase) (h : List X) (a : Answer X) (n : Model)
-      → log ≡ before ++ (Close k, Done) ∷ [] → book C before k ≡ active p len h o s → Step R C m (Open k len) a n → (offset : ℕ) × (a ≡ Opened offset)
+  pub reopens : (before : List (Deed X)) (k len o s : ℕ) (p : Phase) (h : List X) (a : Reply X) (n : Model)
+      → log ≡ before ++ (Close k, Ok Done) ∷ [] → book C before k ≡ active p len h o s → Step R C m (Open k len) a n → (offset : ℕ) × (a ≡ Ok (Opened offset))
 
--- whatever run led from a new rack over a supply with nothing out, with whatever memory, to m: with this call at its end it keeps the law
-abbrev pub KeepsLaw : {X : Type 0} → Rule → Coding X → (m : Model) → Call X → Answer X → (n : Model) → Type 0
-KeepsLaw {X} R C m c a n = (span : ℕ) (memory : List ℕ) (log : List (Deed X)) → Ran R C (fresh_model span memory) log m → Law R C (log ++ (c, a) ∷ []) n
+-- whatever run led from a new rack over a supply with nothing out, with whatever memory, to m: with these calls at its end it keeps the law
+abbrev pub KeepsLawOver : {X : Type 0} → Rule → Coding X → (m : Model) → List (Deed X) → (n : Model) → Type 0
+KeepsLawOver {X} R C m more n = (span : ℕ) (memory : List ℕ) (log : List (Deed X)) → Ran R C (fresh_model span memory) log m → Law R C (log ++ more) n
+
+-- the same of one call
+abbrev pub KeepsLaw : {X : Type 0} → Rule → Coding X → (m : Model) → Call X → Reply X → (n : Model) → Type 0
+KeepsLaw R C m c a n = KeepsLawOver R C m ((c, a) ∷ []) n
 
 -- from m all the calls were made and answered so, which led to n; and whatever run led from a new rack to m, with these calls at its end it
 -- keeps the law
-pub record Lawful {X : Type 0} (R : Rule) (C : Coding X) (m : Model) (calls : List (Call X)) (answers : List (Answer X)) (n : Model) : Type 0 where
+pub record Lawful {X : Type 0} (R : Rule) (C : Coding X) (m : Model) (calls : List (Call X)) (answers : List (Reply X)) (n : Model) : Type 0 where
   pub all : length answers ≡ length calls
   pub ran : Ran R C m (beside calls answers) n
-  pub law : (span : ℕ) (memory : List ℕ) (log : List (Deed X)) → Ran R C (fresh_model span memory) log m → Law R C (log ++ beside calls answers) n
+  pub law : KeepsLawOver R C m (beside calls answers) n

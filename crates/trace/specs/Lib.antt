@@ -3,3 +3,4 @@ pub mod Steps
 pub mod Book
 pub mod History
 pub mod Law
+pub mod Words

@@ -5,6 +5,6 @@ mod call;
 mod dispatch;
 mod lists;
 
-pub use call::{Answer, Call};
+pub use call::{Answer, Answered, Call};
 pub use dispatch::perform;
 pub use lists::run;

@@ -1,6 +1,7 @@
-use Rattle.std.proofs.lemmas.Str.{IsUtf8-from_ascii}
-use Rattle.layout.proofs.Texts.{ascii_written}
+use Rattle.std.proofs.Common.{sym, ◌∙◌}
+use Rattle.layout.proofs.Texts.{unread}
 use Rattle.layout.proofs.length.Goals as goal
 
-pub returns-in-Err : goal.returns-in-Err
-returns-in-Err c w = c.in-Err.ensures.cases.0 (IsUtf8-from_ascii c.args.text.now (ascii_written c.args.text.now w))
+pub returns-in_err-ok : goal.returns-in_err-ok
+returns-in_err-ok c =
+    rw c.from_residual.ensures (unread _ _ c.args.text.now c.from_utf8.result c.from_utf8.ensures.cases (sym c.ok.ensures.value ∙ c.in_err-ok.was))

@@ -6,19 +6,17 @@ ghost use Rattle.pool.specs.Blocks.{BlocksStand};
 
 use super::Pool;
 use pages::supply::Supply;
-use pages::tracked::Tracked;
 use runs::Runs;
-use view::View;
 
 impl<S: Supply> Pool<S> {
     /// A pool with no run.
     pub fn new(supply: S) -> Pool<S>
         ensures runs { run_table result ≡ replicate max_runs None }
         ensures supply { supply_of result ≡ supply }
-        ensures table { page_table result ≡ S.View.view supply }
+        ensures table { page_table result ≡ S.Supply.table supply }
     {
         Pool {
-            pages: Tracked::new(supply),
+            supply,
             runs: Runs::new(),
         }
     }
@@ -26,24 +24,24 @@ impl<S: Supply> Pool<S> {
     /// The supply, with the pool's runs still out.
     pub fn into_supply(self) -> S
         ensures supply { result ≡ supply_of self }
-        ensures table { S.View.view result ≡ page_table self }
+        ensures table { S.Supply.table result ≡ page_table self }
     {
-        let Pool { pages, runs: _ } = self;
-        pages.into_supply()
+        let Pool { supply, runs: _ } = self;
+        supply
     }
 
     /// The supply's span, in pages.
     pub fn span(&self) -> u32
         ensures { result ≡ length (page_table self.now) }
     {
-        self.pages.span()
+        self.supply.span()
     }
 
     /// The sum of the pages of the supply's runs out.
     pub fn pages_out(&self) -> u32
         ensures { result ≡ sum (page_table self.now) }
     {
-        self.pages.pages_out()
+        self.supply.pages_out()
     }
 
     /// What stands of every pool: each block on loan lies inside its run, and no two share a byte. A call that does

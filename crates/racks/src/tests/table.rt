@@ -1,9 +1,8 @@
-//! Tables of calls of a rack and their answers.
+//! Tables of calls of a rack and their answers. Calls are values, since a row holds one; each layer has a table of its own, as
+//! other things are asked and told there.
 use super::voice::Voice;
 use pages::supply::Supply;
-use rack::{Rack, RackFault};
-use samples::Kind;
-use view::View;
+use rack::Rack;
 
 // A call by its line, and then a length, a number to play or how far back a tap is.
 #[derive(Clone, Copy)]
@@ -26,70 +25,59 @@ pub(super) enum Said {
     // two channels that were not fed together
     Torn,
     Count(u32),
-    Refused(u32),
 }
+
+// What a call says, or the number of its refusal.
+pub(super) type Outcome = Result<Said, u32>;
 
 #[derive(Clone, Copy)]
 pub(super) struct Row {
     call: Call,
-    answer: Said,
+    reply: Outcome,
 }
 
-pub(super) fn says(call: Call, answer: Said) -> Row {
-    Row { call, answer }
-}
-
-pub(super) fn refuses(call: Call, number: u32) -> Row {
-    says(call, Said::Refused(number))
-}
-
-fn done(answer: Result<(), RackFault>) -> Said {
-    match answer {
-        Ok(()) => Said::Done,
-        Err(fault) => Said::Refused(fault.number()),
+pub(super) fn says(call: Call, said: Said) -> Row {
+    Row {
+        call,
+        reply: Ok(said),
     }
 }
 
-pub(super) fn ask<S: Supply, V: Voice + Copy>(
+pub(super) fn refuses(call: Call, number: u32) -> Row {
+    Row {
+        call,
+        reply: Err(number),
+    }
+}
+
+pub(super) fn ask<S: Supply, V: Voice>(
     rack: &mut Rack<S, V>,
     voice: V,
     memory: &mut [u8],
     call: Call,
-) -> Said {
-    match call {
-        Call::Open(line, length) => match rack.open(line, length) {
-            Ok(offset) => Said::At(offset),
-            Err(fault) => Said::Refused(fault.number()),
-        },
-        Call::Feed(line, value) => done(rack.feed(memory, line, voice.sample(value))),
-        Call::Tick(line) => done(rack.tick(memory, line)),
-        Call::Tap(line, d) => match rack.tap(memory, line, d) {
-            Ok(sample) => voice.told(sample),
-            Err(fault) => Said::Refused(fault.number()),
-        },
-        Call::Ring(line) => done(rack.ring(line)),
-        Call::Close(line) => done(rack.close(line)),
-        Call::Kept(line) => match rack.kept(line) {
-            Ok(count) => Said::Count(count),
-            Err(fault) => Said::Refused(fault.number()),
-        },
-        Call::Out => Said::Count(rack.pages_out()),
-    }
+) -> Outcome {
+    let said = match call {
+        Call::Open(line, length) => rack.open(line, length).map(Said::At),
+        Call::Feed(line, value) => rack
+            .feed(memory, line, voice.sample(value))
+            .map(|()| Said::Done),
+        Call::Tick(line) => rack.tick(memory, line).map(|()| Said::Done),
+        Call::Tap(line, d) => rack.tap(memory, line, d).map(|sample| voice.told(sample)),
+        Call::Ring(line) => rack.ring(line).map(|()| Said::Done),
+        Call::Close(line) => rack.close(line).map(|()| Said::Done),
+        Call::Kept(line) => rack.kept(line).map(Said::Count),
+        Call::Out => Ok(Said::Count(rack.pages_out())),
+    };
+    said.map_err(|fault| fault.number())
 }
 
-// The first row that a new rack over the supply answers otherwise.
-pub(super) fn wrong<S: Supply, V: Voice + Copy>(
+// The first row that a rack answers otherwise.
+pub(super) fn wrong<S: Supply, V: Voice>(
+    rack: &mut Rack<S, V>,
     voice: V,
-    supply: S,
     memory: &mut [u8],
     rows: &[Row],
-) -> (S, Option<usize>) {
-    let mut rack = Rack::new(voice, supply);
-    let mut wrong = None;
-    for (n, row) in rows.iter().enumerate() {
-        if wrong.is_none() && ask(&mut rack, voice, memory, row.call) != row.answer {
-            wrong = Some(n);
-        }
-    }
-    (rack.into_supply(), wrong)
+) -> Option<usize> {
+    rows.iter()
+        .position(|row| ask(rack, voice, memory, row.call) != row.reply)
 }

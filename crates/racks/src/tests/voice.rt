@@ -1,8 +1,9 @@
-//! Kinds of sample that a number can be played in.
+//! Kinds of sample that a number can be played in. `rehearse` has a trait like this one: its right channel is another, and
+//! one for both would need a crate of its own for two short impls.
 use super::table::Said;
 use samples::{Kind, Mono, MonoSample, Stereo, StereoSample};
 
-pub(super) trait Voice: Kind {
+pub(super) trait Voice: Kind + Copy {
     // The sample that stands for a number.
     fn sample(&self, value: i16) -> Self::Sample;
 

@@ -2,7 +2,7 @@
 ghost use Rattle.std.specs.Prelude.{◌≡◌, ◌+◌, ◌<◌, true, false, replicate, Some, ◌==◌, slice_set};
 ghost use Rattle.runs.specs.Loans.{loans};
 ghost use Rattle.runs.specs.Shapes.{slots_in};
-ghost use Rattle.runs.specs.Table.{free, is_on_loan, covers, serves, precedes, Lends, Restores};
+ghost use Rattle.runs.specs.Table.{free, is_on_loan, covers, serves, rank, Lends, Restores};
 
 use super::Run;
 use crate::shape::Shape;
@@ -30,7 +30,7 @@ impl Run {
         ensures is { result ≡ self.now.first }
         ensures small { result < 65536 }
     {
-        self.first as u32
+        u32::from(self.first)
     }
 
     /// The shape.
@@ -48,6 +48,7 @@ impl Run {
     }
 
     /// Whether one slot is on loan, and no more.
+    #[tactic(auto, using(crate::proofs::Bitmaps::clear_in_le, crate::proofs::Cuts::slots_few))]
     pub fn has_one_on_loan(&self) -> bool
         ensures { result ≡ (free self.now + 1 == slots_in self.now.shape) }
     {
@@ -58,26 +59,21 @@ impl Run {
     pub(crate) fn serves(&self, class: Class) -> bool
         ensures { result ≡ serves class.number (Some self.now) }
     {
-        match self.shape.class() {
-            Some(own) => own.number() == class.number() && self.slots.free() > 0,
-            None => false,
-        }
+        self.slots.free() > 0 && self.shape.class() == Some(class)
     }
 
     // Whether a page lies in this run.
     pub(crate) fn covers(&self, page: u32) -> bool
         ensures { result ≡ covers page (Some self.now) }
     {
-        self.first() <= page && page < self.first() + self.shape.count()
+        (self.first()..self.first() + self.shape.count()).contains(&page)
     }
 
-    // Whether a slot is lent from this run rather than from `other`.
-    pub(crate) fn precedes(&self, other: &Run) -> bool
-        ensures { result ≡ precedes self.now other.now }
+    // The run of least rank lends first: the fullest, and of several such the one with the lowest first page.
+    pub(crate) fn rank(&self) -> (u32, u32)
+        ensures { result ≡ rank self.now }
     {
-        let mine = self.slots.free();
-        let theirs = other.slots.free();
-        mine < theirs || mine == theirs && self.first < other.first
+        (self.slots.free(), self.first())
     }
 
     // Lends the lowest free slot, if there is one.

@@ -14,19 +14,19 @@ impl Shape {
         ensures shape { MatchOption result (NoShape bytes) (λ s. ShapeOf bytes s) }
         ensures size { MatchOption result (NoShape bytes) (λ s. block_size s ≡ block_bytes bytes) }
     {
-        match Class::of_length(bytes) {
-            Some(class) => Some(Shape {
+        if let Some(class) = Class::of_length(bytes) {
+            // Fits, as is proved: `TryFrom` would add a refusal that never comes.
+            return Some(Shape {
                 class: Some(class),
                 count: class.pages() as u8,
-            }),
-            None => match pages_of_long(bytes) {
-                Some(pages) => Some(Shape {
-                    class: None,
-                    count: pages as u8,
-                }),
-                None => None,
-            },
+            });
         }
+        let pages = pages_of_long(bytes)?;
+        // Fits, as is proved, like the pages of a class.
+        Some(Shape {
+            class: None,
+            count: pages as u8,
+        })
     }
 
     /// The class, or `None` for a run of its own.
@@ -41,7 +41,7 @@ impl Shape {
         ensures is { result ≡ self.count }
         ensures few { (0 < result) × (result ≤ 255) }
     {
-        self.count as u32
+        u32::from(self.count)
     }
 
     /// The slots of the run.
@@ -49,10 +49,7 @@ impl Shape {
         ensures is { result ≡ slots_in self }
         ensures few { (0 < result) × (result ≤ max_slots) }
     {
-        match self.class {
-            Some(class) => class.slots(),
-            None => 1,
-        }
+        self.class.map_or(1, Class::slots)
     }
 
     /// The bytes of a slot, and so of a block.
@@ -72,7 +69,7 @@ impl Shape {
     {
         match self.class {
             Some(class) => class.slot_at(place),
-            None => if place == 0 { Some(0) } else { None },
+            None => (place == 0).then_some(0),
         }
     }
 }

@@ -1,17 +1,10 @@
--- One more count is added at each turn, and at the end all are.
-use Rattle.std.proofs.Common.{◌<◌, ◌≤◌, length, sum, ap, arith}
-use Rattle.std.proofs.lemmas.List.Sums.{sum_by_more}
-use Rattle.std.proofs.lemmas.List.{take_all}
+-- At most so many counts, each within 16 bits.
+use Rattle.std.proofs.Common.{rules, arith, ◌^◌}
+use Rattle.std.proofs.lemmas.Iterator.{YieldsList-from_slice}
+use Rattle.std.proofs.lemmas.Iterator.Adapters.{fits_from_length, at_most_from_yields_List}
+use Rattle.pages.specs.Limits.{max_span}
 use Rattle.pages.proofs.table.total.Goals as goal
 
-pub loop-count-preserved : goal.loop-count-preserved
-loop-count-preserved c =
-    let l : c.loop-count.count-index < length c.args.counts.now = omega arith in
-    let e = sum_by_more (λ x. x) c.args.counts.now c.loop-count.count-index 0 l in
-    (omega (arith, e), omega arith)
-
-pub returns : goal.returns
-returns c =
-    let l : length c.args.counts.now ≤ c.loop-count.count-index = omega arith in
-    let e = ap sum (take_all c.loop-count.count-index c.args.counts.now l) in
-    omega (arith, e, c.loop-count.invariant.0)
+pub sum-requires-clause-fits : goal.sum-requires-clause-fits
+sum-requires-clause-fits c =
+    fits_from_length _ _ max_span (2 ^ 32) (at_most_from_yields_List (YieldsList-from_slice c.args.counts.now cc) (omega arith)) c.map.ensures.closure (omega arith) (λ x r q k. search rules)

@@ -1,8 +1,11 @@
 -- Each call begins where the one before it left the tables.
-use Rattle.std.proofs.Common.{◌≡◌, ℕ, zero, suc, ◌+◌, ◌<◌, Bool, true, false, List, [], ◌∷◌, get_or, Some, None, refl, ap, ◌∙◌, arith}
+use Rattle.std.proofs.Common.{◌≡◌, ℕ, zero, suc, ◌+◌, ◌<◌, Bool, true, false, List, take, [], ◌∷◌, get_or, Some, None, refl, ap, ◌∙◌, arith}
 use Rattle.classes.specs.Rule.{Smallest}
-use Rattle.pages.specs.FirstFitRule.{FirstFits, LowestRow}
-use Rattle.pages.specs.declared.first_fit.FirstFit.{FirstFit}
+use Rattle.pages.specs.FirstFitRule.{first_fit}
+use Rattle.pages.specs.declared.lowest_fit.LowestFit.{LowestFit}
+use Rattle.pages.specs.declared.placement.Placement.{Ghosts as Places}
+use Rattle.pages.specs.declared.supply.Supply.{Ghosts}
+use Rattle.pool.specs.declared.pool.Pool.{Pool}
 use Rattle.runs.specs.Bitmap.{clear_in}
 use Rattle.pools.proofs.Rows.{Row, serves_row, beaten, smallest_is}
 use Rattle.pools.proofs.Steps.{stage_none, begin_step, lend_step, release_step}
@@ -86,6 +89,10 @@ more3 : clear_in b1 + 1 < 4
 unfolding clear_in
 more3 = omega arith
 
+-- the table of pages
+abbrev view : {P : Type 0} {place : Places P} {g : Ghosts (LowestFit P place)} → Pool (LowestFit P place) g → List ℕ
+view p = take p.supply.span p.supply.counts
+
 pub returns : goal.returns
 returns c =
     let p0 = c.new-pool.result in
@@ -99,25 +106,25 @@ returns c =
     let p8 = c.release-back.new.self in
     let p9 = c.release-more.new.self in
     let p10 = c.take-next.new.self in
-    let n0 : p0.pages.supply.span ≡ 16 = ap (λ (s : FirstFit). s.span) c.new-pool.ensures.supply ∙ c.new.ensures.span in
-    let n1 : p1.pages.supply.span ≡ 16 = c.take-one.ensures.largest_kept ∙ n0 in
-    let n2 : p2.pages.supply.span ≡ 16 = c.take-two.ensures.largest_kept ∙ n1 in
-    let n3 : p3.pages.supply.span ≡ 16 = c.take-three.ensures.largest_kept ∙ n2 in
-    let n4 : p4.pages.supply.span ≡ 16 = c.take-four.ensures.largest_kept ∙ n3 in
-    let n5 : p5.pages.supply.span ≡ 16 = c.take-five.ensures.largest_kept ∙ n4 in
-    let n6 : p6.pages.supply.span ≡ 16 = c.take-six.ensures.largest_kept ∙ n5 in
-    let n7 : p7.pages.supply.span ≡ 16 = c.take-seven.ensures.largest_kept ∙ n6 in
-    let n8 : p8.pages.supply.span ≡ 16 = c.release-back.ensures.largest_kept ∙ n7 in
-    let n9 : p9.pages.supply.span ≡ 16 = c.release-more.ensures.largest_kept ∙ n8 in
-    let s0 = stage_none p0.runs.table p0.pages.witness.view c.new-pool.ensures.runs p0.runs.long (c.new-pool.ensures.table ∙ c.new.ensures.table) in
-    let t1 = begin_step p0.pages.supply.span n0 896 27 small p0.runs.table p1.runs.table p0.pages.witness.view p1.pages.witness.view [] 0 s0 refl (omega arith) (omega arith) (λ k. refl) c.take-one.result c.take-one.ensures.taken in
-    let t2 = lend_step p1.pages.supply.span (FirstFits p1.pages.supply.span) (LowestRow p1.pages.supply.span) 896 27 small p1.runs.table p2.runs.table p1.pages.witness.view p2.pages.witness.view (Some (row 0 l1) ∷ []) 7 t1.1.0 0 (row 0 l1) refl (omega arith) free1 (served l1) c.take-two.result c.take-two.ensures.taken in
-    let t3 = lend_step p2.pages.supply.span (FirstFits p2.pages.supply.span) (LowestRow p2.pages.supply.span) 896 27 small p2.runs.table p3.runs.table p2.pages.witness.view p3.pages.witness.view (Some (row 0 l2) ∷ []) 7 t2.1.0 0 (row 0 l2) refl (omega arith) free2 (served l2) c.take-three.result c.take-three.ensures.taken in
-    let t4 = lend_step p3.pages.supply.span (FirstFits p3.pages.supply.span) (LowestRow p3.pages.supply.span) 896 27 small p3.runs.table p4.runs.table p3.pages.witness.view p4.pages.witness.view (Some (row 0 l3) ∷ []) 7 t3.1.0 0 (row 0 l3) refl (omega arith) free3 (served l3) c.take-four.result c.take-four.ensures.taken in
-    let t5 = begin_step p4.pages.supply.span n4 896 27 small p4.runs.table p5.runs.table p4.pages.witness.view p5.pages.witness.view (Some (row 0 l4) ∷ []) 7 t4.1.0 refl (omega arith) (omega arith) full c.take-five.result c.take-five.ensures.taken in
-    let t6 = lend_step p5.pages.supply.span (FirstFits p5.pages.supply.span) (LowestRow p5.pages.supply.span) 896 27 small p5.runs.table p6.runs.table p5.pages.witness.view p6.pages.witness.view (Some (row 0 l4) ∷ Some (row 7 l1) ∷ []) 14 t5.1.0 1 (row 7 l1) refl (omega arith) used1.free (second l4 l1 used1) c.take-six.result c.take-six.ensures.taken in
-    let t7 = lend_step p6.pages.supply.span (FirstFits p6.pages.supply.span) (LowestRow p6.pages.supply.span) 896 27 small p6.runs.table p7.runs.table p6.pages.witness.view p7.pages.witness.view (Some (row 0 l4) ∷ Some (row 7 l2) ∷ []) 14 t6.1.0 1 (row 7 l2) refl (omega arith) used2.free (second l4 l2 used2) c.take-seven.result c.take-seven.ensures.taken in
-    let t8 = release_step (FirstFits p7.pages.supply.span) p7.runs.table p8.runs.table p7.pages.witness.view p8.pages.witness.view (Some (row 0 l4) ∷ Some (row 7 l3) ∷ []) 14 t7.1.0 0 (row 0 l4) refl (omega arith) 0 refl more4 0 refl c.release-back.result c.release-back.ensures.released c.release-back.ensures.found in
-    let t9 = release_step (FirstFits p8.pages.supply.span) p8.runs.table p9.runs.table p8.pages.witness.view p9.pages.witness.view (Some (row 0 b1) ∷ Some (row 7 l3) ∷ []) 14 t8.1 0 (row 0 b1) refl (omega arith) 1 refl more3 896 refl c.release-more.result c.release-more.ensures.released c.release-more.ensures.found in
-    let t10 = lend_step p9.pages.supply.span (FirstFits p9.pages.supply.span) (LowestRow p9.pages.supply.span) 896 27 small p9.runs.table p10.runs.table p9.pages.witness.view p10.pages.witness.view (Some (row 0 b2) ∷ Some (row 7 l3) ∷ []) 14 t9.1 1 (row 7 l3) refl (omega arith) used3.free (second b2 l3 used3) c.take-next.result c.take-next.ensures.taken in
+    let n0 : p0.supply.span ≡ 16 = ap (λ s. s.span) c.new-pool.ensures.supply ∙ c.new.ensures.span in
+    let n1 : p1.supply.span ≡ 16 = c.take-one.ensures.rule_kept.largest ∙ n0 in
+    let n2 : p2.supply.span ≡ 16 = c.take-two.ensures.rule_kept.largest ∙ n1 in
+    let n3 : p3.supply.span ≡ 16 = c.take-three.ensures.rule_kept.largest ∙ n2 in
+    let n4 : p4.supply.span ≡ 16 = c.take-four.ensures.rule_kept.largest ∙ n3 in
+    let n5 : p5.supply.span ≡ 16 = c.take-five.ensures.rule_kept.largest ∙ n4 in
+    let n6 : p6.supply.span ≡ 16 = c.take-six.ensures.rule_kept.largest ∙ n5 in
+    let n7 : p7.supply.span ≡ 16 = c.take-seven.ensures.rule_kept.largest ∙ n6 in
+    let n8 : p8.supply.span ≡ 16 = c.release-back.ensures.rule_kept.largest ∙ n7 in
+    let n9 : p9.supply.span ≡ 16 = c.release-more.ensures.rule_kept.largest ∙ n8 in
+    let s0 = stage_none p0.runs.table (view p0) c.new-pool.ensures.runs p0.runs.long (c.new-pool.ensures.table ∙ c.new.ensures.table) in
+    let t1 = begin_step p0.supply.span n0 896 27 small p0.runs.table p1.runs.table (view p0) (view p1) [] 0 s0 refl (omega arith) (omega arith) (λ k. refl) c.take-one.result c.take-one.ensures.taken in
+    let t2 = lend_step (first_fit p1.supply.span) 896 27 small p1.runs.table p2.runs.table (view p1) (view p2) (Some (row 0 l1) ∷ []) 7 t1.1.0 0 (row 0 l1) refl (omega arith) free1 (served l1) c.take-two.result c.take-two.ensures.taken in
+    let t3 = lend_step (first_fit p2.supply.span) 896 27 small p2.runs.table p3.runs.table (view p2) (view p3) (Some (row 0 l2) ∷ []) 7 t2.1.0 0 (row 0 l2) refl (omega arith) free2 (served l2) c.take-three.result c.take-three.ensures.taken in
+    let t4 = lend_step (first_fit p3.supply.span) 896 27 small p3.runs.table p4.runs.table (view p3) (view p4) (Some (row 0 l3) ∷ []) 7 t3.1.0 0 (row 0 l3) refl (omega arith) free3 (served l3) c.take-four.result c.take-four.ensures.taken in
+    let t5 = begin_step p4.supply.span n4 896 27 small p4.runs.table p5.runs.table (view p4) (view p5) (Some (row 0 l4) ∷ []) 7 t4.1.0 refl (omega arith) (omega arith) full c.take-five.result c.take-five.ensures.taken in
+    let t6 = lend_step (first_fit p5.supply.span) 896 27 small p5.runs.table p6.runs.table (view p5) (view p6) (Some (row 0 l4) ∷ Some (row 7 l1) ∷ []) 14 t5.1.0 1 (row 7 l1) refl (omega arith) used1.free (second l4 l1 used1) c.take-six.result c.take-six.ensures.taken in
+    let t7 = lend_step (first_fit p6.supply.span) 896 27 small p6.runs.table p7.runs.table (view p6) (view p7) (Some (row 0 l4) ∷ Some (row 7 l2) ∷ []) 14 t6.1.0 1 (row 7 l2) refl (omega arith) used2.free (second l4 l2 used2) c.take-seven.result c.take-seven.ensures.taken in
+    let t8 = release_step (first_fit p7.supply.span) p7.runs.table p8.runs.table (view p7) (view p8) (Some (row 0 l4) ∷ Some (row 7 l3) ∷ []) 14 t7.1.0 0 (row 0 l4) refl (omega arith) 0 refl more4 0 refl c.release-back.result c.release-back.ensures.released c.release-back.ensures.found in
+    let t9 = release_step (first_fit p8.supply.span) p8.runs.table p9.runs.table (view p8) (view p9) (Some (row 0 b1) ∷ Some (row 7 l3) ∷ []) 14 t8.1 0 (row 0 b1) refl (omega arith) 1 refl more3 896 refl c.release-more.result c.release-more.ensures.released c.release-more.ensures.found in
+    let t10 = lend_step (first_fit p9.supply.span) 896 27 small p9.runs.table p10.runs.table (view p9) (view p10) (Some (row 0 b2) ∷ Some (row 7 l3) ∷ []) 14 t9.1 1 (row 7 l3) refl (omega arith) used3.free (second b2 l3 used3) c.take-next.result c.take-next.ensures.taken in
     ((t1.0, (t2.0, (t3.0, (t4.0, (t5.0, (t6.0, (t7.0, (t10.0, tt)))))))), t8.0, t9.0)

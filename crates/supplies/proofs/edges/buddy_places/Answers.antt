@@ -3,7 +3,8 @@ use Rattle.std.proofs.Common.{◌≡◌, ℕ, List, take, replicate, refl, ap, �
 use Rattle.std.proofs.lemmas.Bool.{cond-true, eq-eqb}
 use Rattle.pages.specs.Spans.{granted_span}
 use Rattle.buddy.specs.Reserve.{power_for, good_buddy_span}
-use Rattle.buddy.specs.declared.Buddy.{Buddy}
+use Rattle.pages.specs.declared.lowest_fit.LowestFit.{LowestFit}
+use Rattle.pages.specs.declared.placement.Placement.{Ghosts}
 use Rattle.buddy.specs.Powers.{power_own}
 use Rattle.supplies.proofs.BuddyEdge.{went5, went3, went4, none1}
 use Rattle.supplies.proofs.edges.buddy_places.Goals as goal
@@ -11,7 +12,7 @@ use Rattle.supplies.proofs.edges.buddy_places.Goals as goal
 granted16 : granted_span (good_buddy_span 16) 16 ≡ 16
 granted16 = cond-true (good_buddy_span 16) 16 1 (eq-eqb (power_for 16) 16 (power_own 16 4 refl))
 
-abbrev table : Buddy → List ℕ
+abbrev table : {P : Type 0} {g : Ghosts P} → LowestFit P g → List ℕ
 table s = take s.span s.counts
 
 pub returns : goal.returns
@@ -22,9 +23,9 @@ returns c =
     let s3 = c.take-four.new.self in
     let s4 = c.take-one.new.self in
     let n0 : s0.span ≡ 16 = c.new-supply.ensures.span ∙ granted16 in
-    let n1 : s1.span ≡ 16 = c.take-five.ensures.largest_kept ∙ n0 in
-    let n2 : s2.span ≡ 16 = c.take-three.ensures.largest_kept ∙ n1 in
-    let n3 : s3.span ≡ 16 = c.take-four.ensures.largest_kept ∙ n2 in
+    let n1 : s1.span ≡ 16 = c.take-five.ensures.rule_kept.largest ∙ n0 in
+    let n2 : s2.span ≡ 16 = c.take-three.ensures.rule_kept.largest ∙ n1 in
+    let n3 : s3.span ≡ 16 = c.take-four.ensures.rule_kept.largest ∙ n2 in
     let v0 : table s0 ≡ replicate 16 0 = c.new-supply.ensures.table ∙ ap (λ (m : ℕ). replicate m 0) granted16 in
     let a = went5 s0.span n0 (table s0) (table s1) c.take-five.result c.take-five.ensures.taken v0 in
     let b = went3 s1.span n1 (table s1) (table s2) c.take-three.result c.take-three.ensures.taken a.1 in

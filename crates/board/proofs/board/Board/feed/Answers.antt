@@ -1,16 +1,16 @@
-use Rattle.std.proofs.Common.{refl, rules}
-use Rattle.board.specs.Views.{supply_of, model_of}
-use Rattle.board.proofs.Welcomes.{promised}
+use Rattle.std.proofs.Common.{rules}
+use Rattle.trace.proofs.Promises.{promised}
+use Rattle.board.specs.Views.{seen}
+use Rattle.board.proofs.Admission.{passes}
 use Rattle.board.proofs.Calls.{feeds}
 use Rattle.board.proofs.board.Board.feed.Goals as goal
 
 pub returns : goal.returns
 returns g c =
-    let k = g.K.Kind in
-    let met = g.met.K.Kind in
     let b = c.args.self.now in
-    let p = promised g.S.Supply (supply_of b) k.wide k.silent k.coded k.heard g.met.S.Supply.fits_bounds met.long met.least met.back in
-    let t = c.args.ticket.now in
-    let n = model_of (record { rack = c.feed.new.self; mark = b.mark }) c.feed.new.memory in
-    let d = feeds p b.mark (model_of b c.args.memory.now) n b.rack.inner.many t.mark t.line c.args.sample (search rules) c.feed.result c.feed.ensures.feeds c.passed.result c.passed.ensures in
-    record { mark_kept = refl {a = b.mark}; rule_kept = search rules; feeds = d.0; honours = d.1 }
+    let met = g.met.K.Kind in
+    let p = promised b.rack g.met.S.Supply.fits_bounds met.long met.least met.back in
+    let m = seen b c.args.memory.now in
+    let n = seen (record { rack = c.feed.new.self; mark = b.mark }) c.feed.new.memory in
+    let fed = feeds m n p b.rack.inner.many c.args.ticket.now c.args.sample c.in_ok-line.line c.in_ok-line.ensures c.feed.result c.feed.ensures.feeds _ (passes c.feed.result _ c.map_err.ensures.cases) in
+    record { same = search rules; feeds = fed.0; honours = fed.1 }

@@ -1,16 +1,14 @@
-use Rattle.std.proofs.Common.{rules}
-use Rattle.board.specs.Views.{supply_of, model_of}
-use Rattle.board.proofs.Welcomes.{promised}
+use Rattle.trace.proofs.Promises.{promised}
+use Rattle.board.specs.Tickets.{standing}
+use Rattle.board.specs.Views.{seen}
+use Rattle.board.proofs.Admission.{passes}
 use Rattle.board.proofs.Calls.{taps}
 use Rattle.board.proofs.board.Board.tap.Goals as goal
 
 pub returns : goal.returns
 returns g c =
-    let k = g.K.Kind in
-    let met = g.met.K.Kind in
     let b = c.args.self.now in
-    let p = promised g.S.Supply (supply_of b) k.wide k.silent k.coded k.heard g.met.S.Supply.fits_bounds met.long met.least met.back in
-    let m = model_of b c.args.memory.now in
-    let t = c.args.ticket.now in
-    let d = taps p b.mark m b.rack.inner.many g.T.Ticket.stated (g.T.Ticket.marked t) (g.T.Ticket.lined t) c.args.d (search rules) c.tap.result (search rules) c.passed.result c.passed.ensures in
-    record { taps = d.0; honours = d.1 }
+    let met = g.met.K.Kind in
+    let p = promised b.rack g.met.S.Supply.fits_bounds met.long met.least met.back in
+    let tapped = taps (seen b c.args.memory.now) p b.rack.inner.many g.T.AnyTicket.stated (standing (g.T.AnyTicket.marked c.args.ticket.now) (g.T.AnyTicket.lined c.args.ticket.now)) c.args.d c.in_ok-line.line c.in_ok-line.ensures c.tap.result c.tap.ensures _ (passes c.tap.result _ c.map_err.ensures.cases) in
+    record { taps = tapped.0; honours = tapped.1 }

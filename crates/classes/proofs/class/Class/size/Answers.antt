@@ -3,4 +3,4 @@ use Rattle.classes.proofs.Sizes.{sized_at}
 use Rattle.classes.proofs.class.Class.size.Goals as goal
 
 pub returns : goal.returns
-returns c = search (rules, sized_at)
+returns c = rw c.from-2.ensures (search (rules, sized_at))

@@ -1,4 +1,4 @@
-use Rattle.std.proofs.Common.{ℕ, ◌*◌, ◌/◌, ◌%◌, ◌^◌, ◌<◌, [], ◌∷◌, get_or, ap, ◌∙◌, arith}
+use Rattle.std.proofs.Common.{◌<◌, arith}
 use Rattle.classes.specs.Rule.{run_bytes}
 use Rattle.classes.proofs.Sizes.{slot_is}
 use Rattle.classes.proofs.class.Class.slot_of.Goals as goal
@@ -7,7 +7,5 @@ pub returns : goal.returns
 returns c =
     let n = c.args.self.number in
     let p = c.args.place in
-    let within : p < run_bytes n = omega arith in (
-      within,
-      ap (λ (i : ℕ). p / 2 ^ i * get_or (16384 ∷ 13108 ∷ 10923 ∷ 9363 ∷ []) (n % 4) 0 / 65536) c.power.ensures ∙ slot_is n p within,
-    )
+    let within : p < run_bytes n = omega arith in
+    (within, rw (c.power.ensures, c.from.ensures) (slot_is n p within))

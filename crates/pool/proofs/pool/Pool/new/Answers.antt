@@ -4,5 +4,5 @@ use Rattle.pool.proofs.pool.Pool.new.Goals as goal
 
 pub invariant_of-result : goal.invariant_of-result
 invariant_of-result g c =
-    let t = state_none c.new-2.result.table c.new.result.witness.view c.new-2.ensures in
-    record { out = t.0; differ = t.1.0; used = t.1.1.0 }
+    let t = state_none c.new.result.table (g.S.Supply.table c.args.supply) c.new.ensures in
+    record { out = t.out; differ = t.differ; used = t.used }

@@ -9,8 +9,8 @@ invariant_of-self g c =
     let s = c.args.self.now in
     let p = c.args.spot in
     let rs = s.runs.table in
-    let v = s.pages.witness.view in
-    let st : State rs v = (s.out, (s.differ, (s.used, tt))) in
+    let v = g.S.Supply.table s.supply in
+    let st : State rs v = (record { out = s.out; differ = s.differ; used = s.used }) in
     let t = state_restore rs v st p.index p.run c.requires.0 p.slot c.restore.new.self.table c.requires.1
     (more_than rs v st p.index p.run c.requires.0 (sym c.if-has_one_on_loan.ensures)) c.restore.ensures in
-    record { out = t.0; differ = t.1.0; used = t.1.1.0 }
+    record { out = t.out; differ = t.differ; used = t.used }

@@ -1,4 +1,4 @@
-use Rattle.std.proofs.Common.{◌<◌, List, length, get_or, sym, refl, subst, arith, rules}
+use Rattle.std.proofs.Common.{◌<◌, List, length, sym, refl, subst, arith, rules}
 use mathlib.Core.Logic.{∥∥₁_map}
 use Rattle.pool.specs.declared.block.Block.{Block}
 use Rattle.pool.specs.Blocks.{BlockOnLoan}
@@ -12,21 +12,20 @@ use Rattle.rack.proofs.rack.Rack.close.Goals as goal
 pub close-requires : goal.close-requires
 close-requires g c =
     let s = c.args.self.now in
-    let n = c.args.line in
-    let w = get_or s.witness.view 0 0 in
-    let u : InUse (line s.inner.lines n) = search rules in
-    record { within = c.in-Ok.ensures.found.1; lent = ∥∥₁_map (s.lent n u) (λ b. (block_at w (line s.inner.lines n), b, refl)) }
+    let l = line s.inner.lines c.in_ok-number.number.value in
+    let u : InUse l = search rules in
+    ∥∥₁_map (s.lent c.in_ok-number.number.value u) (λ b. (block_at g.K.Kind.wide l, b, refl))
 
 pub invariant_of-self : goal.invariant_of-self
 invariant_of-self g c =
     let s = c.args.self.now in
-    let n = c.args.line in
+    let n = c.in_ok-number.number.value in
     let ls = s.inner.lines in
-    let w = get_or s.witness.view 0 0 in
+    let w = g.K.Kind.wide in
     let P : Block → Type 0 = λ b. ∥ BlockOnLoan s.inner.pool.runs.table b ∥₁ in
     let Q : Block → Type 0 = λ b. ∥ BlockOnLoan c.close.new.self.pool.runs.table b ∥₁ in
-    let h : n < length ls = omega (arith, s.inner.many, c.in-Ok.ensures.found.1) in
+    let h : n < length ls = omega (arith, s.inner.many, c.in_ok-number.number.within) in
     let u : InUse (line ls n) = search rules in
     let after = tidy_close P Q w ls n h u (λ b x ne. ∥∥₁_map x (λ y. c.close.ensures.drops.kept b y ne)) (tidy_of s) in
     let t = subst (λ (xs : List Line). Tidy Q w xs) (sym c.close.ensures.lines) after in
-    record { tied = s.tied; placed = t.placed; short = t.short; lent = t.lent; differ = t.differ }
+    record { placed = t.placed; short = t.short; lent = t.lent; differ = t.differ }

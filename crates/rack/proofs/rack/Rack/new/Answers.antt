@@ -1,4 +1,4 @@
-use Rattle.std.proofs.Common.{List, get_or, sym, subst}
+use Rattle.std.proofs.Common.{List, sym, subst}
 use Rattle.pool.specs.declared.block.Block.{Block}
 use Rattle.pool.specs.Blocks.{BlockOnLoan}
 use Rattle.rack.specs.declared.line.Line.{Line}
@@ -7,7 +7,6 @@ use Rattle.rack.proofs.rack.Rack.new.Goals as goal
 
 pub invariant_of-result : goal.invariant_of-result
 invariant_of-result g c =
-    let w = get_or c.of-witness.result.view 0 0 in
     let P : Block → Type 0 = λ b. ∥ BlockOnLoan c.new.result.pool.runs.table b ∥₁ in
-    let t = subst (λ (ls : List Line). Tidy P w ls) (sym c.new.ensures.lines) (tidy_new P w) in
-    record { tied = c.of-witness.ensures.0; placed = t.placed; short = t.short; lent = t.lent; differ = t.differ }
+    let t = subst (λ (ls : List Line). Tidy P g.K.Kind.wide ls) (sym c.new.ensures.lines) (tidy_new P g.K.Kind.wide) in
+    record { placed = t.placed; short = t.short; lent = t.lent; differ = t.differ }

@@ -1,12 +1,11 @@
 -- The blocks of a class fill its pages.
-use Rattle.std.proofs.Common.{◌≡◌, ℕ, ◌*◌, Option, sym, ap, ◌∙◌}
-use Rattle.classes.specs.declared.class.Class.{Class}
-use Rattle.runs.specs.Shapes.{slots_in, block_size, size_by}
+use Rattle.std.proofs.Common.{◌≡◌}
+use Rattle.runs.specs.Shapes.{block_size}
 use Rattle.runs.proofs.Cuts.{slots_fill_pages}
 use Rattle.runs.proofs.shape.Shape.size.Goals as goal
 
-pub returns-in-Some : goal.returns-in-Some
-returns-in-Some c =
+pub returns-in-Some-clause-fill : goal.returns-in-Some-clause-fill
+returns-in-Some-clause-fill c =
     let s = c.args.self in
-    let is : c.size.result ≡ block_size s = c.size.ensures ∙ ap (λ (o : Option Class). size_by o s.count) (sym c.in-Some.is) in
-    record { is = is; fill = ap (λ (n : ℕ). slots_in s * n) is ∙ slots_fill_pages s }
+    let is : c.size.result ≡ block_size s = cc in
+    rw is (slots_fill_pages s)

@@ -1,11 +1,12 @@
--- A class has 1 to 256 slots.
-use Rattle.std.proofs.Common.{◌≡◌, ℕ, ◌<◌, ◌≤◌, sym, ap, ◌∙◌, subst}
-use Rattle.runs.specs.Shapes.{slots_in, slots_by}
+-- A run has 1 to 256 slots.
+use Rattle.std.proofs.Common.{◌≡◌, arith}
+use Rattle.std.proofs.lemmas.Grind.{common_steps}
+use Rattle.runs.specs.Shapes.{slots_in}
 use Rattle.runs.proofs.Cuts.{slots_few}
 use Rattle.runs.proofs.shape.Shape.slots.Goals as goal
 
-pub returns-in-Some : goal.returns-in-Some
-returns-in-Some c =
+pub returns-clause-few : goal.returns-clause-few
+returns-clause-few c =
     let s = c.args.self in
-    let is : c.slots.result ≡ slots_in s = c.slots.ensures.is ∙ ap slots_by (sym c.in-Some.is) in
-    record { is = is; few = subst (λ (n : ℕ). (0 < n) × (n ≤ 256)) (sym is) (slots_few s) }
+    let is : c.map_or.result ≡ slots_in s = grind (arith, common_steps) in
+    rw is (slots_few s)

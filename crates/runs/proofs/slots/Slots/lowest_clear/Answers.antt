@@ -1,36 +1,23 @@
 -- The lowest clear bit is in the first word that is not full.
-use Rattle.std.proofs.Common.{◌+◌, ◌-◌, ◌*◌, ◌^◌, ◌<◌, get_or, arith, rules}
-use lib.Count.{count_trailing_zeros}
+use Rattle.std.proofs.Common.{◌≡◌, ℕ, ◌-◌, ◌^◌, ◌<◌, ◌≢◌, get_or, arith, rules}
+use Rattle.std.proofs.lemmas.Grind.{common_steps}
 use Rattle.runs.specs.Loans.{loans}
-use Rattle.runs.proofs.Bitmaps.{gap, full_more, empty_at, shut_below, lowest_some, lowest_none}
+use Rattle.runs.proofs.Bitmaps.{length_bits, lowest_none, lowest_some}
 use Rattle.runs.proofs.slots.Slots.lowest_clear.Goals as goal
 
-pub returns-then-s-self : goal.returns-then-s-self
+pub returns-in_err-i : goal.returns-in_err-i
 unfolding loans
-returns-then-s-self c =
+returns-in_err-i c =
     let s = c.args.self.now in
-    let i = c.loop-i.i in
-    let w = get_or s.words i 0 in
-    let fits : w < 2 ^ 32 = search rules in
-    let g = gap w fits c.if-w.true in
-    let t = count_trailing_zeros 32 (2 ^ 32 - 1 - w) in
-    lowest_some s.words s.total (i * 32 + t) c.if-s-self.true (empty_at s.words i c.loop-i.invariant t g)
-    (shut_below s.words i c.loop-i.invariant t g)
-
-pub returns-else-s-self : goal.returns-else-s-self
-unfolding loans
-returns-else-s-self c =
-    let s = c.args.self.now in
-    let i = c.loop-i.i in
-    let w = get_or s.words i 0 in
-    let fits : w < 2 ^ 32 = search rules in
-    let g = gap w fits c.if-w.true in
-    let t = count_trailing_zeros 32 (2 ^ 32 - 1 - w) in
-    lowest_none s.words s.total (i * 32 + t) c.if-s-self.false (shut_below s.words i c.loop-i.invariant t g)
-
-pub loop-i-preserved : goal.loop-i-preserved
-loop-i-preserved c = full_more c.args.self.now.words c.loop-i.i c.loop-i.invariant c.if-w.false
+    let full : (j : ℕ) → j < 8 → get_or s.words j 0 ≡ 2 ^ 32 - 1 = λ j h. grind (arith, common_steps) in
+    rw c.from_residual.ensures (lowest_none s.words s.total 8 full (omega arith))
 
 pub returns : goal.returns
 unfolding loans
-returns c = let s = c.args.self.now in lowest_none s.words s.total 256 s.small (λ k h. c.loop-i.invariant k (omega arith))
+returns c =
+    let s = c.args.self.now in
+    let i = c.in_ok-i.i in
+    let full : (j : ℕ) → j < i → get_or s.words j 0 ≡ 2 ^ 32 - 1 = λ j h. grind (arith, common_steps) in
+    let gap : get_or s.words i 0 ≢ 2 ^ 32 - 1 = λ e. grind (arith, common_steps) in
+    let fits : get_or s.words i 0 < 2 ^ 32 = search rules in
+    rw (c.then_some.ensures, c.trailing_ones.ensures, c.total.ensures, length_bits) (lowest_some s.words s.total i full fits gap)

@@ -1,0 +1,2 @@
+-- What the C calls promise.
+pub mod Exports

@@ -1,1 +1,0 @@
--- The trait and its witness cite no definitions.
