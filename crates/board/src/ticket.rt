@@ -11,14 +11,14 @@ pub trait Phase {
     ghost state: { State };
 }
 
-/// The line plays. Only the board's `ring` spends such a ticket.
+/// The line plays. The board's `ring` alone spends a ticket of this phase.
 pub struct Playing;
 
 impl Phase for Playing {
     ghost state = { state.Playing };
 }
 
-/// The line rings. Only the board's `close` spends such a ticket.
+/// The line rings. The board's `close` alone spends a ticket of this phase.
 pub struct Ringing;
 
 impl Phase for Ringing {
@@ -49,6 +49,7 @@ pub trait AnyTicket {
     ghost marked: { Self → ℕ };
 
     ghost lined: { Self → ℕ };
+
     // the state that the line of such a ticket is in
     ghost stated: { State };
 

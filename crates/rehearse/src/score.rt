@@ -60,7 +60,8 @@ pub fn called<V: Voice>(heap: Global, voice: V) -> Result<Vec<Call<V::Sample>>, 
     SCORE.iter().map(|call| voiced(voice, *call)).collect(heap)
 }
 
-// A `map` of calls over a closure would be a public function that asks something of the closure.
+// One match here: a `map` over the samples of `trace`'s `Call` would be a public function with a precondition, what it asks
+// of its closure.
 fn voiced<V: Voice>(voice: V, call: Call<i16>) -> Call<V::Sample> {
     match call {
         Call::Open { line, length } => Call::Open { line, length },
