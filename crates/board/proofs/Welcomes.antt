@@ -38,7 +38,7 @@ module _ {X : Type 0} (b : BoardModel X) (p : Promises b.rule b.coding) (many : 
   -- the line of a ticket that is out is in use, in the ticket's state
   pub out_state : (k : ℕ) (s : State) (span : ℕ) (memory : List ℕ) (log : List (Deed X)) → Ran b.rule b.coding (fresh_model span memory) log b.rack → TicketOut (book b.coding log) k s → Valid b.rack k s × (s ≡ Unused → ⊥)
   out_state k s span memory log ran out =
-      let is = every_state p span memory log b.rack ran k in
+      let is = every_state b.coding p.long p.wide b.rule span memory log b.rack ran k in
       let past : 64 ≤ k → Unused ≡ book_state (book b.coding log k) = λ h. sym (ap (λ (l : Line). l.state) (get_or_past b.rack.lines k unused (omega arith))) ∙ is in (
         (⊎_elim (λ h. h) (λ h. absurd (used (book b.coding log k) out.0 (past h))) (cases_lt k 64), is ∙ out.1),
         λ e. used (book b.coding log k) out.0 (sym e ∙ sym out.1),

@@ -1,9 +1,8 @@
 //! Why a board refuses a ticket, with the number and the values that each refusal tells.
-ghost use Rattle.std.specs.Prelude.{◌≡◌};
+ghost use Rattle.std.specs.Prelude.{◌≡◌, length, take};
 ghost use Rattle.board.specs.Faults.{number, places};
 
-use pool::Places;
-use rack::RackFault;
+use rack::{Places, RackFault};
 
 /// A refusal of a call that comes with a ticket.
 #[derive(Clone, Copy, Debug, PartialEq, Eq)]
@@ -27,14 +26,11 @@ impl BoardFault {
 
     /// The values that the refusal tells.
     pub fn places(&self) -> Places
-        ensures { result.items ≡ places self.now }
+        ensures count { result.count ≡ length (places self.now) }
+        ensures values { take result.count result.values ≡ places self.now }
     {
         match self {
-            BoardFault::OtherMark(line) => {
-                let mut told = Places::new();
-                told.push(*line);
-                told
-            }
+            BoardFault::OtherMark(line) => Places::one(*line),
             BoardFault::Rack(below) => below.places(),
         }
     }

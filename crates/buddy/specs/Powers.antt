@@ -1,11 +1,11 @@
 -- Lemmas on powers of two: `power_for` is the smallest that holds its argument.
-use Rattle.std.specs.Prelude.{◌≡◌, ℕ, zero, suc, ◌+◌, ◌/◌, ◌^◌, ◌<◌, ◌≤◌, max, true, nat_le, refl}
-use Rattle.std.proofs.Common.{⊎_elim, pow_pos, pow_mono, arith}
+use Rattle.std.specs.Prelude.{◌≡◌, ℕ, zero, suc, ◌+◌, ◌/◌, ◌^◌, ◌<◌, ◌≤◌, max, true, ◌⊎◌, nat_le, refl}
+use Rattle.std.proofs.Common.{◌∙◌, inl, inr, ⊎_elim, pow_pos, pow_mono, arith}
 use Rattle.std.proofs.Math.Nat.{two-pow-succ}
-use Rattle.std.proofs.lemmas.Bool.{cases_lt, cond_both, leb-true, leb-false}
+use Rattle.std.proofs.lemmas.Bool.{cases_lt, cond_both, cond-true, cond-false, leb-true, leb-false, le-leb, lt-leb}
 use Rattle.std.proofs.lemmas.Bool.Decides.{nat_tests}
 use Rattle.pages.specs.Limits.{max_span}
-use Rattle.buddy.specs.Reserve.{grown, power_for, PowersSmallest, reserve, good_buddy_span}
+use Rattle.buddy.specs.Reserve.{grown, power_for, PowersSmallest, reserve, reserve_of, good_buddy_span}
 
 pub lt_two_pow : (n : ℕ) → n < 2 ^ n
 lt_two_pow zero = omega arith
@@ -61,5 +61,17 @@ power_own s k e =
 pub power_reserve : (c : ℕ) → 0 < c → reserve c ≡ power_for c
 power_reserve c p = grind (arith, nat_tests)
 
+-- what `reserve_of` answers for a count of a run
+pub power_of_lem : (c r : ℕ) → r ≡ reserve_of c → 0 < c → c ≤ max_span → r ≡ power_for c
+power_of_lem c r e p l = e ∙ cond-true (nat_le c max_span) (reserve c) 0 (le-leb c max_span l) ∙ power_reserve c p
+
+-- and for a count that no run has
+pub reserve_of_none : (c : ℕ) → (c ≡ 0) ⊎ (max_span < c) → reserve_of c ≡ 0
+reserve_of_none c (inl e) = cond_both (nat_le c max_span) (reserve c) 0 (λ x. x ≡ 0) (λ _. grind (arith, nat_tests)) (λ _. refl)
+reserve_of_none c (inr l) = cond-false (nat_le c max_span) (reserve c) 0 (lt-leb c max_span l)
+
 pub good_power : (span : ℕ) → good_buddy_span span ≡ true → (0 < span) × (span ≤ max_span) × (power_for span ≡ span)
 good_power span h = (grind (arith, nat_tests), grind (arith, nat_tests), grind (arith, nat_tests))
+
+pub one_power : (0 < 1) × (1 ≤ max_span) × (◌≡◌ {A = ℕ} (power_for 1) 1)
+one_power = (omega arith, omega arith, power_own 1 0 refl)

@@ -1,13 +1,16 @@
 -- Lemmas on the placement of the buddy: a run's reserve is the smallest power of two that holds it.
-use Rattle.std.specs.Prelude.{◌≡◌, ℕ, ◌+◌, ◌%◌, ◌<◌, ◌≤◌, List, set, slice_set, refl}
+use Rattle.std.specs.Prelude.{◌≡◌, ℕ, ◌+◌, ◌%◌, ◌<◌, ◌≤◌, List, length, take, set, slice_set, refl}
 use Rattle.std.proofs.Common.{sym, ap, subst, ◌∙◌, ⊎_elim, arith}
 use Rattle.std.proofs.lemmas.Bool.{cases_lt}
 use Rattle.std.proofs.lemmas.Bool.Decides.{nat_tests}
 use Rattle.std.proofs.lemmas.List.{map-set}
-use Rattle.pages.specs.Table.{Free}
+use Rattle.pages.specs.Limits.{max_span}
+use Rattle.pages.specs.Table.{Inside, Free, Out}
+use Rattle.pages.specs.Calls.{Added, Removed}
 use Rattle.pages.specs.Placement.{GoodSpans, Reserving, SaysRoom, lowest_fit}
+use Rattle.pages.specs.Placements.{room_added, room_left}
 use Rattle.buddy.specs.Reserve.{power_for, reserve, reserves, good_buddy_span}
-use Rattle.buddy.specs.BuddyRule.{FreeReserve, buddy}
+use Rattle.buddy.specs.BuddyRule.{FreeReserve, LowestReserve, buddy}
 use Rattle.buddy.specs.Powers.{power_smallest, power_pos, power_own, power_reserve, good_power}
 
 pub reserves_set : (t : List ℕ) (f c : ℕ) → 0 < c → reserves (slice_set t f c) ≡ slice_set (reserves t) f (power_for c)
@@ -42,3 +45,11 @@ free_reserve n t c p q = (
 -- the rule of the buddy is that of a supply that takes the lowest place with room for a reserve
 pub buddy_is : (n : ℕ) → lowest_fit FreeReserve n ≡ buddy n
 buddy_is n = refl
+
+-- a run is added at the lowest place of a reserve
+pub reserve_added : (n c f : ℕ) (t : List ℕ) → length t ≡ max_span → n ≤ max_span → Inside n t → 0 < c → LowestReserve n t c f → Added (buddy n) c (take n t) (take n (slice_set t f c)) (record { first = f; count = c })
+reserve_added n c f t l h i p low = room_added power_reserves free_reserve n c f t l h i p ((free_reserve n t c f p).0 low.0, λ q b x. low.1 q b ((free_reserve n t c q p).1 x))
+
+-- a run is removed, and a reserve for its count can stand at its place
+pub reserve_removed : (n c f : ℕ) (t : List ℕ) → Inside n t → Inside n (slice_set t f 0) → Out t f c → FreeReserve n (slice_set t f 0) c f → Removed (buddy n) f c (take n t) (take n (slice_set t f 0))
+reserve_removed n c f t i j out free = room_left power_reserves free_reserve n c f t i j out ((free_reserve n (slice_set t f 0) c f out.0).0 free)

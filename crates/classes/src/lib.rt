@@ -3,10 +3,15 @@
 #![tactic(auto)]
 
 mod class;
+mod exports;
 mod long;
 mod table;
 
 pub use class::Class;
+pub use exports::{
+    cogyrundal_class_of_length, cogyrundal_pages_of_class, cogyrundal_size_of_class,
+    cogyrundal_slot_of_place,
+};
 pub use long::pages_of_long;
 
 /// The bytes of a page.

@@ -1,20 +1,16 @@
 //! The four calls of the firmware's C part, on plain numbers; include/classes.h declares them.
+//! Each is the library's function of that name, with the same clauses.
 #![tactic(auto)]
 
 ghost use Rattle.std.specs.Prelude.{◌≡◌};
-ghost use Rattle.classes_c.specs.Exports.{ClassAnswer, size_answer, pages_answer, slot_answer};
-
-use classes::Class;
-
-// The answer to input outside the class rules, as C has no `Option`: no class, size, count of pages or slot reaches it.
-const OUTSIDE: u32 = 65535;
+ghost use Rattle.classes.specs.Exports.{ClassAnswer, size_answer, pages_answer, slot_answer};
 
 /// The class of a length.
 #[unsafe(no_mangle)]
 pub extern "C" fn cogyrundal_class_of_length(length: u32) -> u32
     ensures { ClassAnswer length result }
 {
-    Class::of_length(length).map_or(OUTSIDE, Class::number)
+    classes::cogyrundal_class_of_length(length)
 }
 
 /// The size of a class, in bytes.
@@ -22,7 +18,7 @@ pub extern "C" fn cogyrundal_class_of_length(length: u32) -> u32
 pub extern "C" fn cogyrundal_size_of_class(class: u32) -> u32
     ensures { result ≡ size_answer class }
 {
-    Class::new(class).map_or(OUTSIDE, Class::size)
+    classes::cogyrundal_size_of_class(class)
 }
 
 /// The pages of a run of a class.
@@ -30,7 +26,7 @@ pub extern "C" fn cogyrundal_size_of_class(class: u32) -> u32
 pub extern "C" fn cogyrundal_pages_of_class(class: u32) -> u32
     ensures { result ≡ pages_answer class }
 {
-    Class::new(class).map_or(OUTSIDE, Class::pages)
+    classes::cogyrundal_pages_of_class(class)
 }
 
 /// The slot that a place in a run of a class lies in.
@@ -38,6 +34,5 @@ pub extern "C" fn cogyrundal_pages_of_class(class: u32) -> u32
 pub extern "C" fn cogyrundal_slot_of_place(class: u32, place: u32) -> u32
     ensures { result ≡ slot_answer class place }
 {
-    let slot = Class::new(class).and_then(|class| class.slot_of(place));
-    slot.unwrap_or(OUTSIDE)
+    classes::cogyrundal_slot_of_place(class, place)
 }

@@ -42,11 +42,17 @@ fn answer<W: Write>(out: &mut W, totals: &mut Totals, number: u64, line: &[u8]) 
 }
 
 fn main(rt: HostRuntime) -> io::Result<()> {
-    let lines = BufReader::new(rt.alloc(), rt.stdin())?.split(rt.alloc(), b'\n');
+    let mut input = BufReader::new(rt.alloc(), rt.stdin())?;
     let mut out = BufWriter::new(rt.alloc(), rt.stdout())?;
     let mut totals = Totals::new();
-    for (number, line) in (1..).zip(lines) {
-        answer(&mut out, &mut totals, number, line?.as_slice())?;
+    // One buffer for all lines: `split` would take memory for each.
+    let mut line = Vec::new(rt.alloc());
+    for number in 1.. {
+        line.clear();
+        if input.read_until(b'\n', &mut line)? == 0 {
+            break;
+        }
+        answer(&mut out, &mut totals, number, line.as_slice())?;
     }
     writeln!(out, "{totals}")?;
     out.flush()

@@ -44,7 +44,8 @@ impl<P: Placement> LowestFit<P> {
     }
 
     // Below `page` all is seen: each reserve there ends by `place`, and no lower place has room. A `while`, since it
-    // passes a whole reserve in one step.
+    // passes a whole reserve in one step. Room is looked for after a free page alone: tried at each turn, the turn waited
+    // for the count that the one before it had read, and a long row of free pages took three times as long.
     fn lowest(&self, count: u16) -> Option<u32>
         requires { (0 < count) × (count ≤ self.now.span) }
         ensures { LowestFound (Room P.reserve P.alignment self.now.span self.now.counts count) result }
@@ -54,15 +55,15 @@ impl<P: Placement> LowestFit<P> {
         let mut place = 0;
         let mut page = 0;
         while place + size <= self.span {
-            if place + size <= page {
-                return Some(place);
-            }
             let run = self.counts[page as usize];
             if run > 0 {
                 page += P::reserve(run);
                 place = page.next_multiple_of(step);
             } else {
                 page += 1;
+                if place + size <= page {
+                    return Some(place);
+                }
             }
         }
         None

@@ -1,8 +1,7 @@
 //! Why a pool refuses, with the number and the values that each refusal tells.
-ghost use Rattle.std.specs.Prelude.{◌≡◌};
+ghost use Rattle.std.specs.Prelude.{◌≡◌, [], ◌∷◌, length, take};
 ghost use Rattle.pool.specs.Faults.{number, places};
 
-use arrayvec::ArrayVec;
 use pages::fault::SupplyFault;
 
 /// A refusal of `take` or `release`.
@@ -26,8 +25,32 @@ pub enum PoolFault {
     NotOnLoan(u32),
 }
 
-/// The values that a refusal tells, the lowest layer's first. No layer's refusal tells more than three.
-pub type Places = ArrayVec<u32, 3>;
+/// The values that a refusal tells, the lowest layer's first: the first `count` of `values`. No layer's refusal tells more than three.
+// A count beside an array, since these values are copied, as an `ArrayVec` is not.
+#[derive(Clone, Copy, Debug, PartialEq, Eq)]
+pub struct Places {
+    pub values: [u32; 3],
+    pub count: usize,
+}
+
+impl Places {
+    /// One value.
+    pub fn one(value: u32) -> Places
+        ensures { (result.values ≡ value ∷ 0 ∷ 0 ∷ []) × (result.count ≡ 1) }
+    {
+        Places {
+            values: [value, 0, 0],
+            count: 1,
+        }
+    }
+
+    /// The values that are told.
+    pub fn as_slice(&self) -> &[u32]
+        ensures { result.now ≡ take self.now.count self.now.values }
+    {
+        self.values.get(..self.count).unwrap_or(&self.values)
+    }
+}
 
 impl PoolFault {
     /// The refusal's number.
@@ -48,22 +71,21 @@ impl PoolFault {
 
     /// The values that the refusal tells.
     pub fn places(&self) -> Places
-        ensures { result.items ≡ places self.now }
+        ensures count { result.count ≡ length (places self.now) }
+        ensures values { take result.count result.values ≡ places self.now }
     {
-        let mut told = Places::new();
         match self {
-            PoolFault::NoBytes => told.push(0),
-            PoolFault::Supply(below, bytes) => {
-                told.push(below.place());
-                told.push(*bytes);
-            }
+            PoolFault::NoBytes => Places::one(0),
+            PoolFault::Supply(below, bytes) => Places {
+                values: [below.place(), *bytes, 0],
+                count: 2,
+            },
             PoolFault::TooLong(value)
             | PoolFault::TableFull(value)
             | PoolFault::PastSpan(value)
             | PoolFault::NoRun(value)
             | PoolFault::NoSlot(value)
-            | PoolFault::NotOnLoan(value) => told.push(*value),
+            | PoolFault::NotOnLoan(value) => Places::one(*value),
         }
-        told
     }
 }

@@ -2,3 +2,4 @@ pub mod Keeping
 pub mod Loans
 pub mod Rooms
 pub mod Parts
+mod Told

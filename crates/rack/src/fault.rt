@@ -1,5 +1,5 @@
 //! Why a rack refuses, with the number and the values that each refusal tells.
-ghost use Rattle.std.specs.Prelude.{◌≡◌};
+ghost use Rattle.std.specs.Prelude.{◌≡◌, length, take};
 ghost use Rattle.rack.specs.Faults.{number, places};
 
 use pool::{Places, PoolFault};
@@ -50,13 +50,23 @@ impl RackFault {
 
     /// The values that the refusal tells, the pool's before the line.
     pub fn places(&self) -> Places
-        ensures { result.items ≡ places self.now }
+        ensures count { result.count ≡ length (places self.now) }
+        ensures values { take result.count result.values ≡ places self.now }
     {
         match self {
             RackFault::Pool(below, line) => {
-                let mut told = below.places();
-                told.push(*line);
-                told
+                let told = below.places();
+                if told.count > 1 {
+                    Places {
+                        values: [told.values[0], told.values[1], *line],
+                        count: 3,
+                    }
+                } else {
+                    Places {
+                        values: [told.values[0], *line, 0],
+                        count: 2,
+                    }
+                }
             }
             RackFault::NoLine(line)
             | RackFault::NoLength(line)
@@ -66,11 +76,7 @@ impl RackFault {
             | RackFault::IsRinging(line)
             | RackFault::IsPlaying(line)
             | RackFault::TooFar(line)
-            | RackFault::WrongMemory(line) => {
-                let mut told = Places::new();
-                told.push(*line);
-                told
-            }
+            | RackFault::WrongMemory(line) => Places::one(*line),
         }
     }
 }

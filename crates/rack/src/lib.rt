@@ -12,6 +12,7 @@ mod verdict;
 
 pub use fault::RackFault;
 pub use line::Line;
+pub use pool::Places;
 pub use rack::Rack;
 pub use state::{State, Verb};
 pub use verdict::turn;

@@ -1,5 +1,5 @@
 -- The list of bits that a row of words stands for.
-use Rattle.std.proofs.Common.{bit_and, bit_or, w32, ◌≡◌, ℕ, suc, ◌+◌, ◌-◌, ◌*◌, ◌/◌, ◌%◌, ◌^◌, ◌<◌, ◌≤◌, Bool, true, false, cond, not, eqb, ltb, ◌≢◌, ◌⊎◌, List, [], ◌∷◌, length, get_or, set, replicate, None, sym, refl, ap, ◌∙◌, inl, inr, arith}
+use Rattle.std.proofs.Common.{bit_and, bit_or, w32, ◌≡◌, ℕ, suc, ◌+◌, ◌-◌, ◌*◌, ◌/◌, ◌%◌, ◌^◌, ◌<◌, ◌≤◌, Bool, true, false, cond, not, eqb, ltb, ◌≢◌, ◌⊎◌, List, [], ◌∷◌, length, get_or, set, replicate, Some, None, sym, refl, ap, ◌∙◌, inl, inr, arith}
 use Rattle.std.specs.Bool.{then_some}
 use Rattle.std.specs.Int.{trailing_ones}
 use Rattle.std.proofs.lemmas.Nat.Bits.{shr_and_one, bit_at-zero, bit_at_ones, bit_at-trailing_ones, bit_at_set_same, bit_at_set_other, bit_at_clear_same, bit_at_clear_other}
@@ -109,8 +109,11 @@ set_within bs s e = go (cases_lt s (length bs))
 
 -- ---- the lowest clear bit
 
-none_below : (ws : List ℕ) (n m : ℕ) → n ≤ m → ((k : ℕ) → k < m → bit ws k ≡ true) → Lowest (bits ws n) None
-none_below ws n m h below k = by (cases_lt k n)
+pub lowest_some : (ws : List ℕ) (n s : ℕ) → s < n → bit ws s ≡ false → ((k : ℕ) → k < s → bit ws k ≡ true) → Lowest (bits ws n) (Some s)
+lowest_some ws n s l e below = (get_d_bits ws n s true l ∙ e, λ k h. get_d_bits ws n k true (omega arith) ∙ below k h)
+
+pub lowest_none : (ws : List ℕ) (n s : ℕ) → n ≤ s → ((k : ℕ) → k < s → bit ws k ≡ true) → Lowest (bits ws n) None
+lowest_none ws n s h below k = by (cases_lt k n)
   where
     by : (k < n) ⊎ (n ≤ k) → get_or (bits ws n) k true ≡ true
     by (inl l) = get_d_bits ws n k true l ∙ below k (omega arith)
@@ -123,8 +126,8 @@ module _ (ws : List ℕ) (n i : ℕ) (full : (j : ℕ) → j < i → get_or ws j
   set_before k h = ap (λ (x : ℕ). digit x (k % 32)) (full (k / 32) (omega arith)) ∙ ap (λ (x : ℕ). eqb x 1) (bit_at_ones 32 (k % 32) (omega arith))
 
   -- so is the whole list
-  pub lowest_none : n ≤ 32 * i → Lowest (bits ws n) None
-  lowest_none h = none_below ws n (32 * i) h set_before
+  pub lowest_full : n ≤ 32 * i → Lowest (bits ws n) None
+  lowest_full h = lowest_none ws n (32 * i) h set_before
 
   -- the next is not
   module _ (fits : get_or ws i 0 < 2 ^ 32) (gap : get_or ws i 0 ≢ 2 ^ 32 - 1) where
@@ -148,14 +151,14 @@ module _ (ws : List ℕ) (n i : ℕ) (full : (j : ℕ) → j < i → get_or ws j
             let at : i * 32 + (k - i * 32) ≡ k = omega arith in
             ap (bit ws) (sym at) ∙ word (k - i * 32) (omega (arith, t.0)) ∙ ap (λ (x : ℕ). eqb x 1) (t.2 (k - i * 32) (omega arith))
 
-    pub lowest_some : Lowest (bits ws n) (then_some (ltb lowest n) lowest)
-    lowest_some = by (cases_lt lowest n)
+    pub lowest_gap : Lowest (bits ws n) (then_some (ltb lowest n) lowest)
+    lowest_gap = by (cases_lt lowest n)
       where
         by : (lowest < n) ⊎ (n ≤ lowest) → Lowest (bits ws n) (then_some (ltb lowest n) lowest)
         by (inl h) =
             let t = bit_at-trailing_ones w32 (get_or ws i 0) (omega arith) in
-            rw lt-ltb (get_d_bits ws n lowest true h ∙ word _ t.0 ∙ ap (λ (x : ℕ). eqb x 1) t.1, λ k l. get_d_bits ws n k true (omega arith) ∙ set_below k l)
-        by (inr h) = rw le-ltb (none_below ws n lowest h set_below)
+            rw lt-ltb (lowest_some ws n lowest h (word _ t.0 ∙ ap (λ (x : ℕ). eqb x 1) t.1) set_below)
+        by (inr h) = rw le-ltb (lowest_none ws n lowest h set_below)
 
 -- ---- none clear, and all clear
 

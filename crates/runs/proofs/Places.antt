@@ -1,5 +1,6 @@
 -- Which run of the table lends.
-use Rattle.std.proofs.Common.{◌≡◌, ℕ, zero, suc, ◌<◌, Bool, true, false, List, [], ◌∷◌, length, get_or, Some, None, Option, IsSome, sym, refl, ap, ◌∙◌, subst, arith, Bor}
+use Rattle.std.proofs.Common.{◌≡◌, ℕ, zero, suc, ◌<◌, ◌≤◌, Bool, true, false, List, [], ◌∷◌, length, get_or, set, Some, None, Option, IsSome, sym, refl, ap, ◌∙◌, subst, arith, Bor}
+use Rattle.std.proofs.lemmas.List.{set-get_or, get_or_past}
 use Rattle.std.proofs.lemmas.List.Elements.{All-filter, filter_passes}
 use Rattle.std.specs.declared.cmp.Ordering.{Ordering}
 use Rattle.std.specs.Ordering.{nat_cmp, ordering_then, is_lt}
@@ -10,10 +11,26 @@ use Rattle.std.proofs.lemmas.Bool.Decides.{nat_tests}
 use Rattle.runs.specs.Loans.{loans}
 use Rattle.runs.proofs.Bitmaps.{zero_from_full}
 use Rattle.runs.specs.declared.run.Run.{Run}
-use Rattle.runs.specs.Table.{serves, rank, NoLater, FullestIn, NoneFree, LendsAt}
+use Rattle.runs.specs.Table.{serves, rank, NoLater, FullestIn, Lends, NoneFree, LendsAt, Restores, RestoresTo, RestoresAt}
+
+-- a change at one place
+
+pub loan_at : (rs : List (Option Run)) (i : ℕ) (r t : Run) (s : Option ℕ) → get_or rs i None ≡ Some r → Lends r s t → LendsAt rs i s (set rs i (Some t))
+loan_at rs i r t None e h =
+    (subst NoneFree (sym e) h.0, ap (λ (x : Run). set rs i (Some x)) h.1 ∙ ap (set rs i) (sym e) ∙ set-get_or rs i None)
+loan_at rs i r t (Some s) e h = (r, t, e, refl, h)
+
+pub loan_past : (rs : List (Option Run)) (i : ℕ) → length rs ≤ i → LendsAt rs i None rs
+loan_past rs i h = (subst NoneFree (sym (get_or_past rs i None h)) tt, refl)
+
+pub restore_at_lem : (rs : List (Option Run)) (i : ℕ) (r t : Run) (s : ℕ) → get_or rs i None ≡ Some r → Restores r s t → RestoresAt rs i s (set rs i (Some t))
+restore_at_lem rs i r t s e h = subst (λ (o : Option Run). RestoresTo o rs i s (set rs i (Some t))) (sym e) (t, refl, h)
+
+pub restore_none : (rs ts : List (Option Run)) (i s : ℕ) → get_or rs i None ≡ None → ts ≡ rs → RestoresAt rs i s ts
+restore_none rs ts i s e h = subst (λ (o : Option Run). RestoresTo o rs i s ts) (sym e) h
 
 -- a run that serves has a free slot
-serves_free : (cl : ℕ) (o : Option Run) → serves cl o ≡ true → NoneFree o → ⊥
+pub serves_free : (cl : ℕ) (o : Option Run) → serves cl o ≡ true → NoneFree o → ⊥
 serves_free cl None e h = false≢true e
 serves_free cl (Some r) e h = grind (arith, nat_tests, zero_from_full (loans r.slots) h, e)
 

@@ -136,8 +136,8 @@ module _ {X : Type 0} (C : Coding X) where
   ran_more R m n k [] c a r s = (k, subst (λ (x : Model). Step R C x c a k) r s, refl)
   ran_more R m n k (d ∷ log) c a r s = (r.0, r.1, ran_more R r.0 n k log c a r.2 s)
 
--- what needs the promises
-module _ {X : Type 0} {R : Rule} {C : Coding X} (promises : Promises R C) where
+-- what needs that each sample is coded in as many bytes as the width, of which there are some
+module _ {X : Type 0} (C : Coding X) (long : (x : X) → length (C.coded x) ≡ C.wide) (wide : 1 ≤ C.wide) where
   module _ {b : Book X} {m : Model} (i : Tied C b m) where
     -- a granted feed, or tick
     tied_written : (n : Model) (k : ℕ) (x : X) → k < 64 → InUse (line m.lines k) → length m.memory ≡ length m.pages * 512 → Written C.coded C.wide m k x n → Tied C (write b k (more x (b k))) n
@@ -173,13 +173,13 @@ module _ {X : Type 0} {R : Rule} {C : Coding X} (promises : Promises R C) where
 
         mine : (e : Entry X) → Agrees C m.memory l e → Agrees C after (fed l) (more x e)
         mine idle a = absurd (omega (arith, a, u))
-        mine (active p len g o z) a = (a.0, a.1, a.2, a.3, feed_holds C.coded C.wide promises.long m.memory l g x (next_in i k u) inside a.4)
+        mine (active p len g o z) a = (a.0, a.1, a.2, a.3, feed_holds C.coded C.wide long m.memory l g x (next_in i k u) inside a.4)
 
         theirs : (j : ℕ) → (j ≡ k → ⊥) → (e : Entry X) → Agrees C m.memory (line m.lines j) e → Agrees C after (line m.lines j) e
         theirs j ne idle a = a
         theirs j ne (active p len g o z) a =
             let v = phase_used p a.0 in
-            (a.0, a.1, a.2, a.3, other_holds C.coded C.wide promises.long m.memory (line m.lines j) l g x (next_in i j v) (next_in i k u) inside (disjoint j ne v) a.4)
+            (a.0, a.1, a.2, a.3, other_holds C.coded C.wide long m.memory (line m.lines j) l g x (next_in i j v) (next_in i k u) inside (disjoint j ne v) a.4)
 
     -- a call that is acknowledged: granted, or else nothing changes
     tied_acknowledged : (n : Model) (c : Call X) (a : Reply X) (r : Result (Unit {0}) RackFault) (D : Type 0) → MatchResult r (λ _. D) (λ _. n ≡ m) → a ≡ acknowledged r
@@ -188,97 +188,102 @@ module _ {X : Type 0} {R : Rule} {C : Coding X} (promises : Promises R C) where
     tied_acknowledged n c a (Err f) D d e same granted = subst (λ (x : Reply X). Tied C (note C b c x) n) (sym e) (subst (λ (x : Book X). Tied C x n) (sym (same f)) (tied_same i n d))
 
     -- one call
-    tied_step : (n : Model) (c : Call X) (a : Reply X) → Step R C m c a n → Tied C (note C b c a) n
-    tied_step n (Open k len) a s = subst (λ (x : Reply X). Tied C (note C b (Open k len) x) n) (sym s.2) (tied_open i R n k len s.0 s.1)
-    tied_step n (Feed k x) a s = tied_acknowledged n (Feed k x) a s.0 _ s.1.1 s.2 (λ f. refl) (λ u e t. let f = write_ok verb.Feed m k u (sym e ∙ s.1.0) in tied_written n k x f.0 f.1 f.2 t)
-    tied_step n (Tick k) a s = tied_acknowledged n (Tick k) a s.0 _ s.1.1 s.2 (λ f. refl) (λ u e t. let f = write_ok verb.Tick m k u (sym e ∙ s.1.0) in tied_written n k C.silent f.0 f.1 f.2 t)
-    tied_step n (Tap k d) a s = tied_same i n s.1
-    tied_step n (Ring k) a s = tied_acknowledged n (Ring k) a s.0 _ s.1.1 s.2 (λ f. refl) (λ u e t. tied_ring i n k u (sym e ∙ s.1.0, t))
-    tied_step n (Close k) a s = tied_acknowledged n (Close k) a s.0 _ s.1.1 s.2 (λ f. refl) (λ u e t. tied_close i R n k u (sym e ∙ s.1.0, t))
-
-    -- a granted tap
-    tells : (k d : ℕ) (x : X) → Ok (Heard x) ≡ heard (tap_answer C m k d) → Tells C.silent (b k) d x
-    tells k d x s = go (tap_answer C m k d) refl s
-      where
-        said : (e : Entry X) → Agrees C m.memory (line m.lines k) e → InUse (line m.lines k) → d < (line m.lines k).length → x ≡ tapped C.heard C.silent C.wide m.memory (line m.lines k) d → Tells C.silent e d x
-        said idle a u near t = omega (arith, a, u)
-        said (active p len h o z) a u near t = (
-          omega (arith, near, a.1),
-          recalled C.silent h d x (t ∙ tap_holds C.coded C.heard C.silent C.wide promises.inverse m.memory (line m.lines k) h d near a.4),
-        )
-
-        go : (r : Result X RackFault) → r ≡ tap_answer C m k d → ◌≡◌ {A = Reply X} (Ok (Heard x)) (heard r) → Tells C.silent (b k) d x
-        go (Ok y) t e =
-            let f = tap_ok C m k d y t in
-            let same : x ≡ y = cc in
-            said (b k) (i.agree k) f.0 f.1 (same ∙ f.2)
-        go (Err f) t e = not_ok f (Heard x) (sym e)
-
-  module _ {b : Book X} {j : Model} (i : Tied C b j) where
-    -- after a granted close, the line with the length that it had
-    reopened : (m n : Model) (k len o z : ℕ) (p : Phase) (h : List X) (a : Reply X) → b k ≡ active p len h o z → Step R C j (Close k) (Ok Done) m → Step R C m (Open k len) a n → (offset : ℕ) × (a ≡ Ok (Opened offset))
-    reopened m n k len o z p h a e s t = go s.0 s.1 s.2
-      where
-        agreed : Agrees C j.memory (line j.lines k) (active p len h o z)
-        agreed = subst (λ (x : Entry X). Agrees C j.memory (line j.lines k) x) e (i.agree k)
-
-        granted : (x : Result Block PoolFault) → is_ok x ≡ true → a ≡ opened (open_answer k x) → (offset : ℕ) × (a ≡ Ok (Opened offset))
-        granted (Ok d) ok z = (d.offset, z)
-        granted (Err f) ok z = absurd (false≢true ok)
-
-        go : (r : Result (Unit {0}) RackFault) → Closes R j k r m → ◌≡◌ {A = Reply X} (Ok Done) (acknowledged r) → (offset : ℕ) × (a ≡ Ok (Opened offset))
-        go (Err f) c q = not_ok f Done (sym q)
-        go (Ok u) c q =
-            let w = C.wide in
-            let l = line j.lines k in
-            let f = done_turns verb.Close j.lines k u c.0 in
-            let low = below i k f.0 in
-            let st = i.alive in
-            let d = c.1 in
-            let r = d.released in
-            let some : 0 < len = omega (arith, next_in i k f.1, agreed.1) in
-            let few : len * w ≤ 130560 = subst (λ (x : ℕ). x * w ≤ 130560) agreed.1 (i.tidy.short k f.1) in
-            let bytes : 0 < len * w = omega (arith, row 0 len w some) in
-            let y = i.tidy.lent k f.1 in
-            let same : y.0 ≡ r.spot = r.only y.0 y.1 (ap (λ (x : Block). x.offset) y.2) in
-            let size : block_size r.spot.run.shape ≡ block_bytes (len * w) =
-            ap (λ (x : Spot). block_size x.run.shape) (sym same) ∙ ap (λ (x : Block). x.size) y.2 ∙ ap (λ (x : ℕ). block_bytes (x * w)) agreed.1 in
-            let asked = shape_of_size (len * w) r.spot.run.shape bytes few size in
-            let none : line m.lines k ≡ unused = ap (λ (x : List Line). line x k) d.lines ∙ get_or-set_same j.lines k unused unused low in
-            let v = subst (λ (x : Result State RackFault). OpensAs R w m k len x t.0 n) (checks_pass w m k len f.0 some few none) t.1 in
-            let used = st.state.used (r.spot.index, r.spot.run, r.on_loan.0) in
-            let ok = granted_again R R (same_rule R) promises.bounds (len * w) j.runs m.runs n.runs j.pages m.pages n.pages r.spot r.on_loan asked r.restored used v.0 v.1
-            (taken_reuses R (len * w) m.runs n.runs m.pages n.pages v.0 v.1) in
-            granted v.0 ok (t.2 ∙ ap opened v.2)
+    tied_step : (R : Rule) (n : Model) (c : Call X) (a : Reply X) → Step R C m c a n → Tied C (note C b c a) n
+    tied_step R n (Open k len) a s = subst (λ (x : Reply X). Tied C (note C b (Open k len) x) n) (sym s.2) (tied_open i R n k len s.0 s.1)
+    tied_step R n (Feed k x) a s = tied_acknowledged n (Feed k x) a s.0 _ s.1.1 s.2 (λ f. refl) (λ u e t. let f = write_ok verb.Feed m k u (sym e ∙ s.1.0) in tied_written n k x f.0 f.1 f.2 t)
+    tied_step R n (Tick k) a s = tied_acknowledged n (Tick k) a s.0 _ s.1.1 s.2 (λ f. refl) (λ u e t. let f = write_ok verb.Tick m k u (sym e ∙ s.1.0) in tied_written n k C.silent f.0 f.1 f.2 t)
+    tied_step R n (Tap k d) a s = tied_same i n s.1
+    tied_step R n (Ring k) a s = tied_acknowledged n (Ring k) a s.0 _ s.1.1 s.2 (λ f. refl) (λ u e t. tied_ring i n k u (sym e ∙ s.1.0, t))
+    tied_step R n (Close k) a s = tied_acknowledged n (Close k) a s.0 _ s.1.1 s.2 (λ f. refl) (λ u e t. tied_close i R n k u (sym e ∙ s.1.0, t))
 
   -- any run
-  tied_run : (b : Book X) (m n : Model) (log : List (Deed X)) → Tied C b m → Ran R C m log n → Tied C (noted C b log) n
-  tied_run b m n [] i r = tied_same i n r
-  tied_run b m n (d ∷ log) i r = tied_run (note C b d.0 d.1) r.0 n log (tied_step i r.0 d.0 d.1 r.1) r.2
+  tied_run : (R : Rule) (b : Book X) (m n : Model) (log : List (Deed X)) → Tied C b m → Ran R C m log n → Tied C (noted C b log) n
+  tied_run R b m n [] i r = tied_same i n r
+  tied_run R b m n (d ∷ log) i r = tied_run R (note C b d.0 d.1) r.0 n log (tied_step i R r.0 d.0 d.1 r.1) r.2
 
   -- any run from a new rack
-  tied_from : (span : ℕ) (memory : List ℕ) (log : List (Deed X)) (m : Model) → Ran R C (fresh_model span memory) log m → Tied C (book C log) m
-  tied_from span memory log m ran = tied_run empty (fresh_model span memory) m log (tied_new C span memory) ran
+  tied_from : (R : Rule) (span : ℕ) (memory : List ℕ) (log : List (Deed X)) (m : Model) → Ran R C (fresh_model span memory) log m → Tied C (book C log) m
+  tied_from R span memory log m ran = tied_run R empty (fresh_model span memory) m log (tied_new C span memory) ran
 
   -- after any run each line is in the state that the book says
-  pub every_state : (span : ℕ) (memory : List ℕ) (log : List (Deed X)) (m : Model) → Ran R C (fresh_model span memory) log m → (k : ℕ) → (line m.lines k).state ≡ book_state (book C log k)
-  every_state span memory log m ran = agrees (tied_from span memory log m ran)
+  pub every_state : (R : Rule) (span : ℕ) (memory : List ℕ) (log : List (Deed X)) (m : Model) → Ran R C (fresh_model span memory) log m → (k : ℕ) → (line m.lines k).state ≡ book_state (book C log k)
+  every_state R span memory log m ran = agrees (tied_from R span memory log m ran)
 
+-- what needs that a sample that is coded reads as itself
+module _ {X : Type 0} {C : Coding X} (inverse : (x : X) → C.heard (C.coded x) ≡ x) {b : Book X} {m : Model} (i : Tied C b m) where
+  -- a granted tap
+  tells : (k d : ℕ) (x : X) → Ok (Heard x) ≡ heard (tap_answer C m k d) → Tells C.silent (b k) d x
+  tells k d x s = go (tap_answer C m k d) refl s
+    where
+      said : (e : Entry X) → Agrees C m.memory (line m.lines k) e → InUse (line m.lines k) → d < (line m.lines k).length → x ≡ tapped C.heard C.silent C.wide m.memory (line m.lines k) d → Tells C.silent e d x
+      said idle a u near t = omega (arith, a, u)
+      said (active p len h o z) a u near t = (
+        omega (arith, near, a.1),
+        recalled C.silent h d x (t ∙ tap_holds C.coded C.heard C.silent C.wide inverse m.memory (line m.lines k) h d near a.4),
+      )
+
+      go : (r : Result X RackFault) → r ≡ tap_answer C m k d → ◌≡◌ {A = Reply X} (Ok (Heard x)) (heard r) → Tells C.silent (b k) d x
+      go (Ok y) t e =
+          let f = tap_ok C m k d y t in
+          let same : x ≡ y = cc in
+          said (b k) (i.agree k) f.0 f.1 (same ∙ f.2)
+      go (Err f) t e = not_ok f (Heard x) (sym e)
+
+-- what needs the bounds of the counts that fit
+module _ {X : Type 0} {R : Rule} {C : Coding X} (bounds : (t : List ℕ) (c : ℕ) → R.fits t c → (0 < c) × (c ≤ R.largest)) (wide : 1 ≤ C.wide) {b : Book X} {j : Model} (i : Tied C b j) where
+  -- after a granted close, the line with the length that it had
+  reopened : (m n : Model) (k len o z : ℕ) (p : Phase) (h : List X) (a : Reply X) → b k ≡ active p len h o z → Step R C j (Close k) (Ok Done) m → Step R C m (Open k len) a n → (offset : ℕ) × (a ≡ Ok (Opened offset))
+  reopened m n k len o z p h a e s t = go s.0 s.1 s.2
+    where
+      agreed : Agrees C j.memory (line j.lines k) (active p len h o z)
+      agreed = subst (λ (x : Entry X). Agrees C j.memory (line j.lines k) x) e (i.agree k)
+
+      granted : (x : Result Block PoolFault) → is_ok x ≡ true → a ≡ opened (open_answer k x) → (offset : ℕ) × (a ≡ Ok (Opened offset))
+      granted (Ok d) ok z = (d.offset, z)
+      granted (Err f) ok z = absurd (false≢true ok)
+
+      go : (r : Result (Unit {0}) RackFault) → Closes R j k r m → ◌≡◌ {A = Reply X} (Ok Done) (acknowledged r) → (offset : ℕ) × (a ≡ Ok (Opened offset))
+      go (Err f) c q = not_ok f Done (sym q)
+      go (Ok u) c q =
+          let w = C.wide in
+          let l = line j.lines k in
+          let f = done_turns verb.Close j.lines k u c.0 in
+          let low = below i k f.0 in
+          let st = i.alive in
+          let d = c.1 in
+          let r = d.released in
+          let some : 0 < len = omega (arith, next_in i k f.1, agreed.1) in
+          let few : len * w ≤ 130560 = subst (λ (x : ℕ). x * w ≤ 130560) agreed.1 (i.tidy.short k f.1) in
+          let bytes : 0 < len * w = omega (arith, row 0 len w some) in
+          let y = i.tidy.lent k f.1 in
+          let same : y.0 ≡ r.spot = r.only y.0 y.1 (ap (λ (x : Block). x.offset) y.2) in
+          let size : block_size r.spot.run.shape ≡ block_bytes (len * w) =
+          ap (λ (x : Spot). block_size x.run.shape) (sym same) ∙ ap (λ (x : Block). x.size) y.2 ∙ ap (λ (x : ℕ). block_bytes (x * w)) agreed.1 in
+          let asked = shape_of_size (len * w) r.spot.run.shape bytes few size in
+          let none : line m.lines k ≡ unused = ap (λ (x : List Line). line x k) d.lines ∙ get_or-set_same j.lines k unused unused low in
+          let v = subst (λ (x : Result State RackFault). OpensAs R w m k len x t.0 n) (checks_pass w m k len f.0 some few none) t.1 in
+          let used = st.state.used (r.spot.index, r.spot.run, r.on_loan.0) in
+          let ok = granted_again R R (same_rule R) bounds (len * w) j.runs m.runs n.runs j.pages m.pages n.pages r.spot r.on_loan asked r.restored used v.0 v.1
+          (taken_reuses R (len * w) m.runs n.runs m.pages n.pages v.0 v.1) in
+          granted v.0 ok (t.2 ∙ ap opened v.2)
+
+-- what needs all that a supply and a kind promise
+module _ {X : Type 0} {R : Rule} {C : Coding X} (promises : Promises R C) where
   pub every_run : (span : ℕ) (memory : List ℕ) (log : List (Deed X)) (m : Model) → Ran R C (fresh_model span memory) log m → Law R C log m
   every_run span memory log m ran =
       record {
         apart = apart i;
         housed = housed i;
         filled = filled i;
-        taps = λ k d x n s. tells i k d x s.0;
+        taps = λ k d x n s. tells promises.inverse i k d x s.0;
         keeps = keeps i;
         reopens = λ before k len o z p h a n e f t.
             let r = ran_split C R (fresh_model span memory) m before (Close k, Ok Done) (subst (λ (l : List (Deed X)). Ran R C (fresh_model span memory) l m) e ran) in
-            reopened (tied_from span memory before r.0 r.1) m n k len o z p h a f r.2 t;
+            reopened promises.bounds promises.wide (tied_from C promises.long promises.wide R span memory before r.0 r.1) m n k len o z p h a f r.2 t;
       }
     where
       i : Tied C (book C log) m
-      i = tied_from span memory log m ran
+      i = tied_from C promises.long promises.wide R span memory log m ran
 
   -- one call more
   pub keeps_law : (m n : Model) (c : Call X) (a : Reply X) → Step R C m c a n → KeepsLaw R C m c a n

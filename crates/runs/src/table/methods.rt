@@ -65,29 +65,15 @@ impl Runs {
     {
         let index = self.fullest(class)?;
         let run = self.get(index).unwrap();
-        let slot = self.lend_at(index).unwrap();
+        let slot = lend_at(&mut self.table, index).unwrap();
         Some(Spot { index, run, slot })
-    }
-
-    // Lends the lowest free slot of the run at an index: `None` where there is no such run, or it has none. A copy is
-    // changed and put back, since a ghost field reads the table, and a `&mut` to one of its runs gets no proof here.
-    fn lend_at(&mut self, index: usize) -> Option<u32>
-        ensures { LendsAt self.old.table index result self.new.table }
-    {
-        let mut run = self.get(index)?;
-        let slot = run.lend()?;
-        self.put(index, run);
-        Some(slot)
     }
 
     /// Takes back a slot of the run at an index.
     pub fn restore(&mut self, index: usize, slot: u32)
         ensures { RestoresAt self.old.table index slot self.new.table }
     {
-        if let Some(mut run) = self.get(index) {
-            run.restore(slot);
-            self.put(index, run);
-        }
+        restore_at(&mut self.table, index, slot);
     }
 
     /// Puts a run at an index.
@@ -111,6 +97,28 @@ impl Runs {
         // By index, since after `get_mut` a proof knows the table's length and none of its runs.
         if index < MAX_RUNS {
             self.table[index] = entry;
+        }
+    }
+}
+
+// A run is changed where it stands, so these two take the table, which a ghost field reads, as a slice.
+
+// Lends the lowest free slot of the run at an index: `None` where there is no such run, or it has none.
+fn lend_at(table: &mut [Option<Run>], index: usize) -> Option<u32>
+    ensures { LendsAt table.old index result table.new }
+{
+    if index >= table.len() {
+        return None;
+    }
+    table[index].as_mut()?.lend()
+}
+
+fn restore_at(table: &mut [Option<Run>], index: usize, slot: u32)
+    ensures { RestoresAt table.old index slot table.new }
+{
+    if index < table.len() {
+        if let Some(run) = table[index].as_mut() {
+            run.restore(slot);
         }
     }
 }

@@ -1,6 +1,8 @@
 -- Each place below the one at hand fails: a reserve stands in its way.
-use Rattle.std.proofs.Common.{◌≡◌, ℕ, ◌+◌, ◌%◌, ◌<◌, subst, ⊎_elim, arith}
+use Rattle.std.proofs.Common.{◌≡◌, ℕ, ◌+◌, ◌%◌, ◌<◌, ◌≤◌, map, sym, subst, ⊎_elim, arith}
+use Rattle.std.specs.List.{slice_index}
 use Rattle.std.proofs.lemmas.Bool.{cases_lt, cases_order}
+use Rattle.pages.specs.Table.{Free}
 use Rattle.pages.specs.Placements.{reserved, run_reserve, below_next, next_bound}
 use Rattle.pages.proofs.lowest_fit.LowestFit.lowest.Goals as goal
 
@@ -47,4 +49,14 @@ loop-place-preserved g c =
       i.2,
       (λ f l h. ⊎_elim (λ b. i.3 f b h) (λ b. let e = reserved g.met.P.Placement.reserving c.args.self.now.counts page in let n = g.met.P.Placement.reserving.none in grind arith) (cases_lt f page)),
       i.4,
+    )
+
+pub returns-then-place-size : goal.returns-then-place-size
+returns-then-place-size g c =
+    let i = c.loop-place.invariant in
+    let page = c.loop-place.page in
+    let clear : (f : ℕ) → f < page + 1 → 0 < slice_index (map g.P.Placement.reserve c.args.self.now.counts) f → f + slice_index (map g.P.Placement.reserve c.args.self.now.counts) f ≤ c.loop-place.place =
+    (λ f l h. ⊎_elim (λ b. i.3 f b h) (λ b. let e = reserved g.met.P.Placement.reserving c.args.self.now.counts page in let n = g.met.P.Placement.reserving.none in grind arith) (cases_lt f page)) in (
+      (i.0, omega arith, λ f h k. ⊎_elim (λ l. omega (arith, clear f l h)) (λ l. omega arith) (cases_lt f (page + 1))),
+      λ q l room. i.4 q room.0 l (subst (λ (n : ℕ). Free (map g.P.Placement.reserve c.args.self.now.counts) q n) (sym c.reserve-size.ensures) room.2),
     )

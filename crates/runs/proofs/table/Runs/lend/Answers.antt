@@ -14,6 +14,6 @@ returns c =
     let rs = c.args.self.now.table in
     let run = c.unwrap-run.result in
     let here : get_or rs c.in_ok-index.index None ≡ Some run = cc in
-    let l = subst (λ (o : Option ℕ). LendsAt rs c.in_ok-index.index o c.lend_at.new.self.table) c.unwrap-slot.ensures c.lend_at.ensures in
+    let l = subst (λ (o : Option ℕ). LendsAt rs c.in_ok-index.index o c.lend_at.new.table) c.unwrap-slot.ensures c.lend_at.ensures in
     let same : l.0 ≡ run = cc (l.2, here) in
     (c.in_ok-index.ensures, here, (l.1, l.3, subst (λ (r : Run). Lends r (Some c.unwrap-slot.result) l.1) same l.4))

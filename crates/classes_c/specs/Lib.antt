@@ -1,2 +1,0 @@
--- What the C calls promise.
-pub mod Exports
