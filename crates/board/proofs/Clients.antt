@@ -102,7 +102,7 @@ module _ {X : Type 0} (b d : BoardModel X) where
           subst (λ (x : RackFault). Opens b.rule b.coding.wide b.rack k len (Err x) d.rack) (sym same) h
 
   -- a valid playing ticket is always rung
-  pub ring_granted : (t : Ticket Playing) (r : Result (Ticket Ringing) (Declined Playing)) → t.mark ≡ b.mark → Valid b.rack t.line state.Playing → BoardRings b d t r
+  pub ring_granted : (t : Ticket Playing) (r : Result (Ticket Ringing) (Declined (Ticket Playing))) → t.mark ≡ b.mark → Valid b.rack t.line state.Playing → BoardRings b d t r
       → (r ≡ Ok (ticket t.mark t.line)) × Rings b.rack t.line (Ok tt) d.rack
   ring_granted t r own v (a, h, is) =
       let s = admitted b d t _ own a h in
@@ -111,7 +111,7 @@ module _ {X : Type 0} (b d : BoardModel X) where
       (is ∙ ap (rung_by t) (s.2 ∙ ap passed ok), subst (λ (x : Result (Unit {0}) RackFault). Rings b.rack t.line x d.rack) ok s.1.0)
 
   -- a valid ringing ticket always closes its line
-  pub close_granted : (t : Ticket Ringing) (r : Result (Unit {0}) (Declined Ringing)) → t.mark ≡ b.mark → Valid b.rack t.line state.Ringing → BoardCloses b d t r → (r ≡ Ok tt) × Closes b.rule b.rack t.line (Ok tt) d.rack
+  pub close_granted : (t : Ticket Ringing) (r : Result (Unit {0}) (Declined (Ticket Ringing))) → t.mark ≡ b.mark → Valid b.rack t.line state.Ringing → BoardCloses b d t r → (r ≡ Ok tt) × Closes b.rule b.rack t.line (Ok tt) d.rack
   close_granted t r own v (a, h, is) =
       let s = admitted b d t _ own a h in
       let turn = ap done (valid_turns verb.Close b.rack t.line state.Ringing state.Unused v refl) in

@@ -24,17 +24,17 @@ opened_by own k (Ok offset) = Ok (record { ticket = ticket own k; offset = offse
 opened_by own k (Err f) = Err f
 
 -- the answer to a ring: a ringing ticket for the playing one, which else comes back
-abbrev pub rung_by : Ticket Playing → Result (Unit {0}) BoardFault → Result (Ticket Ringing) (Declined Playing)
+abbrev pub rung_by : Ticket Playing → Result (Unit {0}) BoardFault → Result (Ticket Ringing) (Declined (Ticket Playing))
 rung_by t (Ok u) = Ok (ticket t.mark t.line)
 rung_by t (Err f) = Err (record { ticket = t; fault = f })
 
 -- the answer to a close: the ticket is spent, or comes back
-abbrev pub closed_by : Ticket Ringing → Result (Unit {0}) BoardFault → Result (Unit {0}) (Declined Ringing)
+abbrev pub closed_by : Ticket Ringing → Result (Unit {0}) BoardFault → Result (Unit {0}) (Declined (Ticket Ringing))
 closed_by t (Ok u) = Ok u
 closed_by t (Err f) = Err (record { ticket = t; fault = f })
 
 -- the same answers without their tickets
-abbrev pub verdict : {A P : Type 0} → Result A (Declined P) → Result (Unit {0}) BoardFault
+abbrev pub verdict : {A T : Type 0} → Result A (Declined T) → Result (Unit {0}) BoardFault
 verdict (Ok x) = Ok tt
 verdict (Err d) = Err d.fault
 
@@ -60,13 +60,13 @@ module _ {X : Type 0} (b d : BoardModel X) where
   abbrev pub RingsLine : Ticket Playing → Result (Unit {0}) BoardFault → Type 0
   RingsLine t = Admits t (λ s. Rings b.rack t.line s d.rack × KeepsLaw b.rule b.coding b.rack (call.Ring t.line) (acknowledged s) d.rack)
 
-  abbrev pub BoardRings : Ticket Playing → Result (Ticket Ringing) (Declined Playing) → Type 0
+  abbrev pub BoardRings : Ticket Playing → Result (Ticket Ringing) (Declined (Ticket Playing)) → Type 0
   BoardRings t r = (a : Result (Unit {0}) BoardFault) × RingsLine t a × (r ≡ rung_by t a)
 
   abbrev pub ClosesLine : Ticket Ringing → Result (Unit {0}) BoardFault → Type 0
   ClosesLine t = Admits t (λ s. Closes b.rule b.rack t.line s d.rack × KeepsLaw b.rule b.coding b.rack (call.Close t.line) (acknowledged s) d.rack)
 
-  abbrev pub BoardCloses : Ticket Ringing → Result (Unit {0}) (Declined Ringing) → Type 0
+  abbrev pub BoardCloses : Ticket Ringing → Result (Unit {0}) (Declined (Ticket Ringing)) → Type 0
   BoardCloses t r = (a : Result (Unit {0}) BoardFault) × ClosesLine t a × (r ≡ closed_by t a)
 
 -- a tap changes nothing

@@ -39,8 +39,8 @@ pub struct Opened {
 }
 
 /// A ticket that comes back from a call that was refused.
-pub struct Declined<P: Phase> {
-    pub ticket: Ticket<P>,
+pub struct Declined<T> {
+    pub ticket: T,
     pub fault: BoardFault,
 }
 

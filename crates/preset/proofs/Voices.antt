@@ -59,7 +59,7 @@ entered b d e memory after v o f h first second opens feeds taps =
 
 -- the line of a ticket, which plays, is left to ring, and ticked: d after the ring, e after the tick
 module _ {S K X : Type 0} {supply : SupplyGhosts S} {kind : KindGhosts K X} (b d e : Board S K X supply kind) (memory after : List ℕ) (t : Ticket Playing) (mine : t.mark ≡ mark_of b) (valid : Valid (model_of b memory) t.line state.Playing)
-    (r : Result (Ticket Ringing) (Declined Playing)) (u : Ticket Ringing) (granted : r ≡ Ok u) (first : SameBoard b d) (rings : BoardRings (seen b memory) (seen d memory) t r)
+    (r : Result (Ticket Ringing) (Declined (Ticket Playing))) (u : Ticket Ringing) (granted : r ≡ Ok u) (first : SameBoard b d) (rings : BoardRings (seen b memory) (seen d memory) t r)
     (f : Result (Unit {0}) BoardFault) (second : SameBoard d e) (ticks : BoardTicks (seen d memory) (seen e after) u f) where
   ring : (u ≡ ticket t.mark t.line) × Rings (model_of b memory) t.line (Ok tt) (model_of d memory)
   ring = let g = ring_granted (seen b memory) (seen d memory) t r mine valid rings in (ok_same u _ (sym granted ∙ g.0), g.1)
@@ -78,13 +78,13 @@ module _ {S K X : Type 0} {supply : SupplyGhosts S} {kind : KindGhosts K X} (b d
       (lines.0, (valid.0, lines.1 ∙ ap (λ (l : Line). l.state) that))
 
   -- so it is closed
-  pub closed : (g : Board S K X supply kind) (c : Result (Unit {0}) (Declined Ringing)) → BoardCloses (seen e after) (seen g after) u c → (c ≡ Ok tt) × Closes (rule_of e) (model_of e after) t.line (Ok tt) (model_of g after)
+  pub closed : (g : Board S K X supply kind) (c : Result (Unit {0}) (Declined (Ticket Ringing))) → BoardCloses (seen e after) (seen g after) u c → (c ≡ Ok tt) × Closes (rule_of e) (model_of e after) t.line (Ok tt) (model_of g after)
   closed g c closes =
       let rung : Ticket Ringing = ticket t.mark t.line in
       close_granted (seen e after) (seen g after) rung c (mine ∙ sym first.mark ∙ sym second.mark) kept.1 (subst (λ (x : Ticket Ringing). BoardCloses (seen e after) (seen g after) x c) ring.0 closes)
 
   -- tapped and closed
-  pub left : (g : Board S K X supply kind) (h : Result X BoardFault) (c : Result (Unit {0}) (Declined Ringing)) → BoardTaps (seen e after) u 1 h → BoardCloses (seen e after) (seen g after) u c → Leaves (seen b memory) (seen g after) t.line h
+  pub left : (g : Board S K X supply kind) (h : Result X BoardFault) (c : Result (Unit {0}) (Declined (Ticket Ringing))) → BoardTaps (seen e after) u 1 h → BoardCloses (seen e after) (seen g after) u c → Leaves (seen b memory) (seen g after) t.line h
   left g h c taps closes =
       let k = t.line in
       let rung : Ticket Ringing = ticket t.mark t.line in

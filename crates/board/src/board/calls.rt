@@ -81,7 +81,10 @@ impl<S: Supply, K: Kind + Drop> Board<S, K> {
     }
 
     /// Leaves the ticket's line to ring: a ringing ticket for the playing one.
-    pub fn ring(&mut self, ticket: Ticket<Playing>) -> Result<Ticket<Ringing>, Declined<Playing>>
+    pub fn ring(
+        &mut self,
+        ticket: Ticket<Playing>,
+    ) -> Result<Ticket<Ringing>, Declined<Ticket<Playing>>>
         ensures same { SameBoard self.old self.new }
         ensures rings { (bytes : List ℕ) → BoardRings (seen self.old bytes) (seen self.new bytes) ticket result }
         ensures honours { (bytes : List ℕ) → Honours (seen self.old bytes) ticket state.Playing (verdict result) }
@@ -94,7 +97,7 @@ impl<S: Supply, K: Kind + Drop> Board<S, K> {
     }
 
     /// Closes the ticket's line, and spends the ticket.
-    pub fn close(&mut self, ticket: Ticket<Ringing>) -> Result<(), Declined<Ringing>>
+    pub fn close(&mut self, ticket: Ticket<Ringing>) -> Result<(), Declined<Ticket<Ringing>>>
         ensures same { SameBoard self.old self.new }
         ensures closes { (bytes : List ℕ) → BoardCloses (seen self.old bytes) (seen self.new bytes) ticket result }
         ensures honours { (bytes : List ℕ) → Honours (seen self.old bytes) ticket state.Ringing (verdict result) }
