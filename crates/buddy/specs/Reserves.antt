@@ -8,7 +8,7 @@ use Rattle.pages.specs.Limits.{max_span}
 use Rattle.pages.specs.Table.{Inside, Free, Out}
 use Rattle.pages.specs.Calls.{Added, Removed}
 use Rattle.pages.specs.Placement.{GoodSpans, Reserving, SaysRoom, lowest_fit}
-use Rattle.pages.specs.Placements.{room_added, room_left}
+use Rattle.pages.specs.Placements.{view_reserves_free, from_view_reserves_free, room_added, room_left}
 use Rattle.buddy.specs.Reserve.{power_for, reserve, reserves, good_buddy_span}
 use Rattle.buddy.specs.BuddyRule.{FreeReserve, LowestReserve, buddy}
 use Rattle.buddy.specs.Powers.{power_smallest, power_pos, power_own, power_reserve, good_power}
@@ -45,6 +45,13 @@ free_reserve n t c p q = (
 -- the rule of the buddy is that of a supply that takes the lowest place with room for a reserve
 pub buddy_is : (n : ℕ) → lowest_fit FreeReserve n ≡ buddy n
 buddy_is n = refl
+
+-- a reserve can stand in the table where it can stand in its part up to the span
+pub from_view_reserve : (n : ℕ) (t : List ℕ) → Inside n t → (c p : ℕ) → FreeReserve n (take n t) c p → FreeReserve n t c p
+from_view_reserve n t i c p h = (h.0, h.1, from_view_reserves_free power_reserves n t i p (power_for c) h.2)
+
+pub view_lowest : (n : ℕ) (t : List ℕ) → Inside n t → (c p : ℕ) → LowestReserve n t c p → LowestReserve n (take n t) c p
+view_lowest n t i c p h = ((h.0.0, h.0.1, view_reserves_free power_reserves n t i p (power_for c) h.0.2), λ q l r. h.1 q l (from_view_reserve n t i c q r))
 
 -- a run is added at the lowest place of a reserve
 pub reserve_added : (n c f : ℕ) (t : List ℕ) → length t ≡ max_span → n ≤ max_span → Inside n t → 0 < c → LowestReserve n t c f → Added (buddy n) c (take n t) (take n (slice_set t f c)) (record { first = f; count = c })
