@@ -1,6 +1,7 @@
 //! Why a board refuses a ticket, with the number and the values that each refusal tells.
 ghost use Rattle.std.specs.Prelude.{◌≡◌, length, take};
 ghost use Rattle.board.specs.Faults.{number, places};
+ghost use Rattle.pool.specs.Faults.{padded};
 
 use rack::{Places, RackFault};
 
@@ -24,10 +25,11 @@ impl BoardFault {
         }
     }
 
-    /// The values that the refusal tells.
+    /// The values that the refusal tells, with zeros after them.
     pub fn places(&self) -> Places
         ensures count { result.count ≡ length (places self.now) }
         ensures values { take result.count result.values ≡ places self.now }
+        ensures padding { result.values ≡ padded (places self.now) }
     {
         match self {
             BoardFault::OtherMark(line) => Places::one(*line),

@@ -1,5 +1,5 @@
 -- A refusal's number, and the values that it tells, the lowest layer's first.
-use Rattle.std.specs.Prelude.{◌≡◌, ℕ, List, [], ◌∷◌, ◌++◌}
+use Rattle.std.specs.Prelude.{◌≡◌, ℕ, List, [], ◌∷◌, ◌++◌, take}
 use Rattle.pages.specs.Faults as supply
 use Rattle.pool.specs.declared.fault.PoolFault.{PoolFault}
 use Rattle.pool.specs.declared.fault.PoolFault.TheVariants.{NoBytes, TooLong, TableFull, Supply, PastSpan, NoRun, NoSlot, NotOnLoan}
@@ -25,6 +25,10 @@ places (PastSpan offset) = offset ∷ []
 places (NoRun offset) = offset ∷ []
 places (NoSlot offset) = offset ∷ []
 places (NotOnLoan offset) = offset ∷ []
+
+-- three values: those that are told, and then zeros
+abbrev pub padded : List ℕ → List ℕ
+padded ps = take 3 (ps ++ (0 ∷ 0 ∷ 0 ∷ []))
 
 -- the refusal has this number, and tells these values
 abbrev pub Says : PoolFault → ℕ → List ℕ → Type 0

@@ -1,6 +1,6 @@
 //! Why a pool refuses, with the number and the values that each refusal tells.
 ghost use Rattle.std.specs.Prelude.{◌≡◌, [], ◌∷◌, length, take};
-ghost use Rattle.pool.specs.Faults.{number, places};
+ghost use Rattle.pool.specs.Faults.{number, places, padded};
 
 use pages::fault::SupplyFault;
 
@@ -69,10 +69,11 @@ impl PoolFault {
         }
     }
 
-    /// The values that the refusal tells.
+    /// The values that the refusal tells, with zeros after them.
     pub fn places(&self) -> Places
         ensures count { result.count ≡ length (places self.now) }
         ensures values { take result.count result.values ≡ places self.now }
+        ensures padding { result.values ≡ padded (places self.now) }
     {
         match self {
             PoolFault::NoBytes => Places::one(0),

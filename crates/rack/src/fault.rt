@@ -1,5 +1,6 @@
 //! Why a rack refuses, with the number and the values that each refusal tells.
 ghost use Rattle.std.specs.Prelude.{◌≡◌, length, take};
+ghost use Rattle.pool.specs.Faults.{padded};
 ghost use Rattle.rack.specs.Faults.{number, places};
 
 use pool::{Places, PoolFault};
@@ -48,10 +49,11 @@ impl RackFault {
         }
     }
 
-    /// The values that the refusal tells, the pool's before the line.
+    /// The values that the refusal tells, the pool's before the line, with zeros after them.
     pub fn places(&self) -> Places
         ensures count { result.count ≡ length (places self.now) }
         ensures values { take result.count result.values ≡ places self.now }
+        ensures padding { result.values ≡ padded (places self.now) }
     {
         match self {
             RackFault::Pool(below, line) => {
